@@ -1,0 +1,4 @@
+pub mod Bools
+pub mod Search
+pub mod Every
+pub mod Fill
