@@ -1,6 +1,6 @@
 -- A test of all places below a bound.
-use Prim.Native.Nat.{ℕ, suc, _+_, _-_, _<_, _≤_}
-use mathlib.Core.Path.{_≡_, refl, ap, sym, subst, _∙_}
+use Prim.Native.Nat.{ℕ, suc, _+_, _<_, _≤_}
+use mathlib.Core.Path.{_≡_, refl, sym, subst}
 use mathlib.Core.Bool.{Bool, true, false, _&&_}
 use mathlib.Core.List.{List}
 use mathlib.Core.Logic.{⊎-elim}
@@ -66,3 +66,9 @@ pub set-each : {A : Type 0} (P : ℕ → A → Type 0) (l : List A) (i : ℕ) (v
 set-each P l i v d h p k q =
     ⊎-elim (λ e. subst (λ (j : ℕ). P j (getD (set l i v) j d)) (sym e) (rw (getD-set-same l i v d h) p))
     (λ ne. rw (getD-set-other l i k v d ne) (q ne)) (same-or-not k i)
+
+-- what holds at a place of the list, and of the new value where it is put there, holds at the place afterwards
+pub set-at : {A : Type 0} (P : ℕ → A → Type 0) (l : List A) (i : ℕ) (v d : A) (k : ℕ) → k < length l → (k ≡ i → P i v)
+    → ((k ≡ i → ⊥) → P k (getD l k d)) → P k (getD (set l i v) k d)
+set-at P l i v d k h p q =
+    ⊎-elim (λ e. set-each P l i v d (omega arith) (p e) k q) (λ ne. rw (getD-set-other l i k v d ne) (q ne)) (same-or-not k i)

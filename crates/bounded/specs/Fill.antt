@@ -1,9 +1,9 @@
 -- A list given place by place, and a loop that fills it.
-use Prim.Native.Nat.{ℕ, suc, _+_, _-_, _<_, _≤_}
+use Prim.Native.Nat.{ℕ, suc, _+_, _<_, _≤_}
 use mathlib.Core.List.{List, [], _∷_, _++_}
 use mathlib.Core.Path.{_≡_, refl, ap, sym, _∙_}
 use native.Mathlib.Numerals.{add-one}
-use native.Mathlib.Nat.{le-of-suc-le-suc, not-suc-le-zero}
+use native.Mathlib.Nat.{le-of-suc-le-suc, not-suc-le-zero, suc-inj}
 use native.Mathlib.Omega.{arith}
 use lib.ListN.{length, getD, set, take, length-set}
 use lib.Seq.{take-suc-set, take-all}
@@ -44,3 +44,12 @@ pub filled-all : {A : Type 0} {xs : List A} {i n : ℕ} {f : ℕ → A} → Fill
 filled-all {A} {xs} {i} {n} {f} s h =
     let e : i ≡ n = omega arith in
     sym (take-all i xs (omega arith)) ∙ s .so-far ∙ ap (λ k. tabulate k f) e
+
+-- a list read place by place, one place of it set
+pub tabulate-set : {A B : Type 0} (n : ℕ) (g : A → B) (l : List A) (i : ℕ) (v d : A) → length l ≡ n
+    → tabulate n (λ k. g (getD (set l i v) k d)) ≡ set (tabulate n (λ k. g (getD l k d))) i (g v)
+tabulate-set ℕ.zero g [] i v d h = refl
+tabulate-set ℕ.zero g (x ∷ l) i v d h = absurd (omega arith)
+tabulate-set (suc n) g [] i v d h = absurd (omega arith)
+tabulate-set (suc n) g (x ∷ l) ℕ.zero v d h = refl
+tabulate-set (suc n) g (x ∷ l) (suc i) v d h = ap (λ t. g x ∷ t) (tabulate-set n g l i v d (suc-inj h))

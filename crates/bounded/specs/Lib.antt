@@ -1,4 +1,5 @@
 pub mod Bools
 pub mod Search
+pub mod Place
 pub mod Every
 pub mod Fill

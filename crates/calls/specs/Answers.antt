@@ -1,0 +1,42 @@
+-- The paper's number and values for each answer: document 01, "In checking order" and "The call program".
+use Prim.Native.Nat.{ℕ}
+use mathlib.Core.Bool.{cond}
+use mathlib.Core.List.{List, [], _∷_}
+use lib.Dec.{eqb}
+use lib.ListN.{take, replicate}
+use Rattle.calls.specs.declared.Refusal.{Refusal}
+use Rattle.calls.specs.declared.Refusal.the-variants.{StoreLength, Unsound, NoDomain, OutOfRange, Locked, NotGranted, NotEntry, NoRun, HasPassword, Full, Missing}
+use Rattle.calls.specs.declared.Answer.{Answer}
+use Rattle.calls.specs.declared.Answer.the-variants.{Done, Refused}
+use Rattle.calls.specs.declared.Fields.{Fields}
+use Rattle.calls.specs.declared.Outcome.{Outcome}
+
+abbrev pub refusalNumber : Refusal → ℕ
+refusalNumber StoreLength = 2
+refusalNumber Unsound = 3
+refusalNumber NoDomain = 4
+refusalNumber OutOfRange = 5
+refusalNumber Locked = 6
+refusalNumber NotGranted = 7
+refusalNumber NotEntry = 8
+refusalNumber NoRun = 9
+refusalNumber HasPassword = 10
+refusalNumber Full = 11
+refusalNumber Missing = 12
+
+-- "an answer number (0 is done)"
+abbrev pub numberOf : Answer → ℕ
+numberOf (Done value) = 0
+numberOf (Refused r) = refusalNumber r
+
+-- "a value (0 unless named)"
+abbrev pub valueOf : Answer → ℕ
+valueOf (Done value) = value
+valueOf (Refused r) = 0
+
+abbrev pub noFields : Fields
+noFields = record { count = 0; values = replicate 11 0 }
+
+-- what a line of the program prints behind the number: "GT, when done, prints its fields in place of the value"
+abbrev pub valuesOf : Outcome → List ℕ
+valuesOf o = cond (eqb (o .fields .count) 0) (valueOf (o .answer) ∷ []) (take (o .fields .count) (o .fields .values))

@@ -1,0 +1,59 @@
+-- BT: document 01, "BT home passwords of domains 0 to 3".
+use Prim.Native.Nat.{ℕ, _+_, _*_}
+use mathlib.Core.Bool.{not}
+use mathlib.Core.List.{List, [], _∷_}
+use mathlib.Core.Option.{Option, none, some}
+use lib.Dec.{ltb, eqb}
+use lib.ListN.{getD, set, replicate}
+use Rattle.bounded.specs.Every.{below}
+use Rattle.bounded.specs.Fill.{tabulate}
+use Rattle.state.specs.Places.{freeObject, emptyFrame, emptyState}
+use Rattle.state.specs.Update.{newObject, onlyList}
+use Rattle.state.specs.declared.Estate.{Estate}
+use Rattle.state.specs.declared.Domain.{Domain}
+use Rattle.state.specs.declared.State.{State}
+use Rattle.calls.specs.Answers.{noFields}
+use Rattle.calls.specs.View.{check, firstFailing}
+use Rattle.calls.specs.Step.{Result, refused, storeCheck}
+use Rattle.calls.specs.declared.Refusal.{Refusal}
+use Rattle.calls.specs.declared.Refusal.the-variants.{NoDomain, OutOfRange}
+use Rattle.calls.specs.declared.Answer.the-variants.{Done}
+
+-- the home password of a domain
+abbrev pub homeOf : List ℕ → ℕ → ℕ
+homeOf homes d = getD homes d 0
+
+-- "give each domain one object, its estate's first page, with its home password in mode 15"
+unfoldable pub homeEstate : List ℕ → ℕ → Estate
+homeEstate homes d = record { objects = newObject (32 * d) 1 (homeOf homes d) ∷ replicate 7 freeObject }
+
+-- "slot 0 names it by that password"; "No locks, nothing saved."
+unfoldable pub homeDomain : List ℕ → ℕ → Domain
+homeDomain homes d =
+    record { active = onlyList (record { page = 32 * d; password = homeOf homes d }); saved = replicate 4 emptyFrame; depth = 0 }
+
+unfoldable pub bootState : List ℕ → State
+bootState homes = record { table = record { estates = tabulate 4 (homeEstate homes) }; domains = tabulate 4 (homeDomain homes) }
+
+-- "its first pair is base × 256 + 15 and that password"
+unfoldable pub homePair : List ℕ → ℕ → List ℕ → List ℕ
+homePair homes d words = set (set words (2048 * d) (32 * d * 256 + 15)) (2048 * d + 1) (homeOf homes d)
+
+-- "zero the store"
+unfoldable pub bootWords : List ℕ → List ℕ
+bootWords homes = homePair homes 3 (homePair homes 2 (homePair homes 1 (homePair homes 0 (replicate 8192 0))))
+
+-- "A refused boot gives the state with no objects and no slots, store unchanged"
+abbrev pub booted : List ℕ → List ℕ → Option Refusal → Result
+booted homes words none = record { outcome = record { answer = Done 0; fields = noFields; state = bootState homes }; words = bootWords homes }
+booted homes words (some r) = refused (record { state = emptyState; words = words }) r
+
+-- BT by a domain on the words of a store: 2, 4 and 5
+unfoldable pub boot : List ℕ → ℕ → List ℕ → Result
+boot words d homes =
+    booted homes words
+    (firstFailing
+    (storeCheck (record { state = emptyState; words = words })
+    ∷ check NoDomain (ltb d 4)
+    ∷ check OutOfRange (below 4 (λ k. not (eqb (homeOf homes k) 0)))
+    ∷ []))

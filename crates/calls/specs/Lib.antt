@@ -1,0 +1,9 @@
+pub mod Answers
+pub mod Arguments
+pub mod View
+pub mod Checks
+pub mod Changes
+pub mod Step
+pub mod Boot
+pub mod Runs
+pub mod Marked

@@ -1,0 +1,46 @@
+-- Lists of calls, each on what the last one left, computed.
+use Prim.Native.Nat.{ℕ}
+use mathlib.Core.Path.{_≡_, ap, _∙_}
+use mathlib.Core.List.{List, [], _∷_, map}
+use Rattle.bounded.specs.Search.{first}
+use Rattle.bounded.specs.Every.{below}
+use Rattle.state.specs.Sound.{covers, passwordOk, absent, distinct, entryOk, registrationOk, liesIn, objectBounds, objectOk, apart, apartAt, apartFrom, estateOk, slotOk, frameBounds, frameOk, savedOk, domainOk, soundAt, sound}
+use Rattle.state.specs.Lookup.{covering, based, objectCovering, objectBased, placeBased, freePlace, placeOf, ordinaryMode, modeOf, hasPassword}
+use Rattle.state.specs.Update.{insertSlot, removeSlot, lockSlot, mergeList, onlyList, saveDomain, restoreDomain, newObject, addPassword, dropPassword}
+use Rattle.judge.specs.Search.{live, clist, listAt, pairMode, verdictOf, pairVerdict, listVerdict, slotVerdict, frameVerdict, searched}
+use Rattle.judge.specs.Judged.{judged}
+use Rattle.judge.specs.Judged.Inside.{judged-is}
+use Rattle.calls.specs.Answers.{numberOf, valuesOf}
+use Rattle.calls.specs.Arguments.{inRange}
+use Rattle.calls.specs.View.{World, Judging, unlocked, early, view}
+use Rattle.calls.specs.Checks.{runFree, isEntry, late, checks}
+use Rattle.calls.specs.Changes.{frameFields, registration, changes, zeroed}
+use Rattle.calls.specs.Step.{Result, stepBy, worldOf}
+use Rattle.calls.specs.Boot.{homeEstate, homeDomain, bootState, homePair, bootWords, boot}
+use Rattle.calls.specs.declared.Call.{Call}
+
+-- a line: a call by a domain, and the number and values that it must answer
+pub record Line : Type 0 where
+  pub domain : ℕ
+  pub call : Call
+  pub answer : List ℕ
+
+abbrev pub by : ℕ → Call → List ℕ → Line
+by d c answer = record { domain = d; call = c; answer = answer }
+
+abbrev pub answerOf : Result → List ℕ
+answerOf r = numberOf (r .outcome .answer) ∷ valuesOf (r .outcome)
+
+-- the answers to lines, each on what the last one left; unfolding it unfolds all that it computes with
+unfoldable pub answersBy : Judging → World → List Line → List (List ℕ)
+unfolding first below covers passwordOk absent distinct entryOk registrationOk liesIn objectBounds objectOk apart apartAt apartFrom estateOk slotOk frameBounds frameOk savedOk domainOk soundAt sound covering based objectCovering objectBased placeBased freePlace placeOf ordinaryMode modeOf hasPassword insertSlot removeSlot lockSlot mergeList onlyList saveDomain restoreDomain newObject addPassword dropPassword live clist listAt pairMode verdictOf pairVerdict listVerdict slotVerdict frameVerdict searched inRange unlocked early view runFree isEntry late checks frameFields registration changes zeroed stepBy homeEstate homeDomain bootState homePair bootWords boot
+answersBy judging w [] = []
+answersBy judging w (l ∷ ls) =
+    let r = stepBy judging w (l .domain) (l .call) in answerOf r ∷ answersBy judging (worldOf r) ls
+
+abbrev pub expected : List Line → List (List ℕ)
+expected ls = map (λ (l : Line). l .answer) ls
+
+-- an example is computed by the search, and holds of the judgement
+pub by-search : {A : Type 0} (of : Judging → A) (a : A) → of searched ≡ a → of judged ≡ a
+by-search of a e = ap of judged-is ∙ e

@@ -1,0 +1,65 @@
+-- What every call does: it reads a view, is checked against it, and answers with a value and changes.
+use Prim.Native.Nat.{ℕ}
+use mathlib.Core.List.{List, _∷_}
+use mathlib.Core.Option.{Option, none, some}
+use lib.Dec.{eqb}
+use lib.ListN.{length}
+use Rattle.state.specs.Sound.{sound}
+use Rattle.judge.specs.Judged.{judged}
+use Rattle.calls.specs.Answers.{noFields}
+use Rattle.calls.specs.View.{World, Judging, View, view, Check, check, firstFailing}
+use Rattle.calls.specs.Checks.{checks}
+use Rattle.calls.specs.Changes.{value, fields, changes, applyAll}
+use Rattle.calls.specs.declared.Call.{Call}
+use Rattle.calls.specs.declared.Refusal.{Refusal}
+use Rattle.calls.specs.declared.Refusal.the-variants.{StoreLength, Unsound}
+use Rattle.calls.specs.declared.Answer.the-variants.{Done, Refused}
+use Rattle.calls.specs.declared.Outcome.{Outcome}
+
+-- what a call hands back: the outcome with the new state, and the words of the store
+pub record Result : Type 0 where
+  pub outcome : Outcome
+  pub words : List ℕ
+
+abbrev pub worldOf : Result → World
+worldOf r = record { state = r .outcome .state; words = r .words }
+
+-- "A refused call gives its number and the value 0 and changes no word, table, slot, lock or saved domain."
+abbrev pub refused : World → Refusal → Result
+refused w r = record { outcome = record { answer = Refused r; fields = noFields; state = w .state }; words = w .words }
+
+abbrev pub done : World → ℕ → Call → View → Result
+done w d c v =
+    record {
+      outcome = record { answer = Done (value c v); fields = fields c v; state = applyAll (changes d c v) w .state };
+      words = applyAll (changes d c v) w .words;
+    }
+
+abbrev pub concluded : Option Refusal → World → ℕ → Call → View → Result
+concluded none w d c v = done w d c v
+concluded (some r) w d c v = refused w r
+
+-- 2. "The store's length is not 8,192 words."
+abbrev pub storeCheck : World → Check
+storeCheck w = check StoreLength (eqb (length (w .words)) 8192)
+
+-- 3. "The state is not sound"
+abbrev pub soundCheck : World → Check
+soundCheck w = check Unsound (sound (w .state))
+
+-- a call by a domain, with judging as a parameter; every check in order
+unfoldable pub stepBy : Judging → World → ℕ → Call → Result
+stepBy judging w d c =
+    concluded (firstFailing (storeCheck w ∷ soundCheck w ∷ checks d c (view judging w d c))) w d c (view judging w d c)
+
+-- the same without check 3
+unfoldable pub checkedBy : Judging → World → ℕ → Call → Result
+checkedBy judging w d c = concluded (firstFailing (storeCheck w ∷ checks d c (view judging w d c))) w d c (view judging w d c)
+
+-- what every call does
+abbrev pub step : World → ℕ → Call → Result
+step = stepBy judged
+
+-- what every call does after check 3
+abbrev pub checked : World → ℕ → Call → Result
+checked = checkedBy judged

@@ -1,0 +1,107 @@
+// The calls of the monitor.
+use state::State;
+
+// A call with its arguments, as they come.
+pub enum Call {
+    Read {
+        address: u64,
+    },
+    Write {
+        address: u64,
+        value: u64,
+    },
+    Execute {
+        address: u64,
+    },
+    Lookup {
+        address: u64,
+        rights: u64,
+    },
+    Create {
+        page: u64,
+        pages: u64,
+        password: u64,
+    },
+    Delete {
+        base: u64,
+    },
+    AddPassword {
+        base: u64,
+        password: u64,
+        mode: u64,
+    },
+    DropPassword {
+        base: u64,
+        password: u64,
+    },
+    Register {
+        base: u64,
+        password: u64,
+        list: Presented,
+        entries: Entries,
+    },
+    Insert {
+        slot: u64,
+        list: Presented,
+    },
+    Remove {
+        slot: u64,
+    },
+    Get,
+    Lock {
+        slot: u64,
+    },
+    PdxCall {
+        entry: u64,
+        choice: u64,
+    },
+    PdxReturn,
+}
+
+// A Clist capability as a caller presents it.
+pub struct Presented {
+    pub page: u64,
+    pub password: u64,
+}
+
+// The entries of a registration: how many, and the first four. What stands past the count is no argument.
+pub struct Entries {
+    pub count: u64,
+    pub first: u64,
+    pub second: u64,
+    pub third: u64,
+    pub fourth: u64,
+}
+
+// Why a call is refused, in checking order.
+pub enum Refusal {
+    StoreLength,
+    Unsound,
+    NoDomain,
+    OutOfRange,
+    Locked,
+    NotGranted,
+    NotEntry,
+    NoRun,
+    HasPassword,
+    Full,
+    Missing,
+}
+
+pub enum Answer {
+    Done(u64),
+    Refused(Refusal),
+}
+
+// What a done Get reports: `count` numbers. All zero for any other answer.
+pub struct Fields {
+    pub count: u64,
+    pub values: [u64; 11],
+}
+
+// The answer of a call, beside the new state.
+pub struct Outcome {
+    pub answer: Answer,
+    pub fields: Fields,
+    pub state: State,
+}

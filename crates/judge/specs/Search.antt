@@ -1,0 +1,84 @@
+-- How an access is judged: document 01, "How an access is judged", rules 1 to 4.
+use Prim.Native.Nat.{ℕ, _+_, _*_, _/_}
+use mathlib.Core.Bool.{Bool, true, false, cond, _&&_, _||_}
+use mathlib.Core.List.{List, []}
+use lib.Dec.{leb, ltb, eqb}
+use lib.ListN.{length, take, drop, getD}
+use Rattle.bounded.specs.Search.{first}
+use Rattle.rights.specs.Modes.{grants, denies}
+use Rattle.state.specs.Places.{slotAt}
+use Rattle.state.specs.Sound.{free}
+use Rattle.state.specs.Lookup.{objectCovering, objectBased, ordinaryMode, modeOf}
+use Rattle.state.specs.declared.Capability.{Capability}
+use Rattle.state.specs.declared.Object.{Object}
+use Rattle.state.specs.declared.Table.{Table}
+use Rattle.state.specs.declared.Frame.{Frame}
+use Rattle.judge.specs.declared.Target.{Target}
+use Rattle.judge.specs.declared.Target.the-variants.{Address, Base}
+use Rattle.judge.specs.declared.Verdict.{Verdict}
+use Rattle.judge.specs.declared.Verdict.the-variants.{Granted, Denied, Passed}
+use Rattle.judge.specs.declared.Judgement.{Judgement}
+use Rattle.judge.specs.declared.Judgement.the-variants.{Refused}
+
+-- the object that a capability names by its page
+abbrev pub named : Table → Capability → Object
+named t c = objectBased t (c .page)
+
+-- 1. "A slot is live when its capability is true for an object by an ordinary password whose mode is positive and holds R."
+unfoldable pub live : Table → Capability → Bool
+live t c = grants (ordinaryMode (named t c) (c .password)) 1
+
+-- "A Clist is any object read as pairs of words from its start": its words; none where the store is too short for it
+unfoldable pub clist : List ℕ → Object → List ℕ
+clist words o = cond (leb (64 * (o .base + o .pages)) (length words)) (take (64 * o .pages) (drop (64 * o .base) words)) []
+
+-- the words of the Clist at slot k; "Others are passed over."
+unfoldable pub listAt : Table → List ℕ → Frame → ℕ → List ℕ
+listAt t words f k = cond (ltb k (f .count) && live t (slotAt f k)) (clist words (named t (slotAt f k))) []
+
+-- "A capability is true for an object when its page is the base and its password is one of that object's": the mode that a
+-- pair of words then has for the object, else 0; "The hint is ignored."
+unfoldable pub pairMode : Object → ℕ → ℕ → ℕ
+pairMode o word password = cond (eqb (word / 256) (o .base)) (modeOf o password) 0
+
+-- 3. "a true pair grants when its mode is positive and holds all of them; it denies when its mode is negative and holds any of
+-- them. Other pairs are passed over."
+unfoldable pub verdictOf : ℕ → ℕ → ℕ → Verdict
+verdictOf mode wanted at = cond (grants mode wanted) (Granted at) (cond (denies mode wanted) Denied Passed)
+
+-- what pair i of a Clist says; `start` is the address of the Clist's first word
+unfoldable pub pairVerdict : List ℕ → ℕ → Object → ℕ → ℕ → Verdict
+pairVerdict list start o wanted i = verdictOf (pairMode o (getD list (2 * i) 0) (getD list (2 * i + 1) 0)) wanted (start + 2 * i)
+
+abbrev pub decides : Verdict → Bool
+decides (Granted at) = true
+decides Denied = true
+decides Passed = false
+
+-- 2. "Pairs are taken by slot from 0, then by place in the Clist." 4. "The first granting or denying pair decides."
+unfoldable pub listVerdict : List ℕ → ℕ → Object → ℕ → Verdict
+listVerdict list start o wanted =
+    first (λ i. decides (pairVerdict list start o wanted i)) (pairVerdict list start o wanted) Passed 0 (length list / 2)
+
+-- what slot k says; its Clist starts at the page that the slot names
+unfoldable pub slotVerdict : Table → List ℕ → Frame → Object → ℕ → ℕ → Verdict
+slotVerdict t words f o wanted k = listVerdict (listAt t words f k) (64 * slotAt f k .page) o wanted
+
+unfoldable pub frameVerdict : Table → List ℕ → Frame → Object → ℕ → Verdict
+frameVerdict t words f o wanted = first (λ k. decides (slotVerdict t words f o wanted k)) (slotVerdict t words f o wanted) Passed 0 8
+
+-- "With neither, or with no object at the address, there is no grant, by the same refusal."
+abbrev pub judgementOf : Verdict → Judgement
+judgementOf (Granted at) = Judgement.Granted at
+judgementOf Denied = Refused
+judgementOf Passed = Refused
+
+-- the object asked for, a free one where there is none
+abbrev pub targeted : Table → Target → Object
+targeted t (Address a) = objectCovering t (a / 64)
+targeted t (Base b) = objectBased t b
+
+-- "For an object and a nonempty set of wanted rights"
+unfoldable pub searched : Table → List ℕ → Frame → Target → ℕ → Judgement
+searched t words f target wanted =
+    cond (free (targeted t target) || eqb wanted 0) Refused (judgementOf (frameVerdict t words f (targeted t target) wanted))

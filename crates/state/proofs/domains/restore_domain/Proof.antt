@@ -1,0 +1,16 @@
+use Prim.Native.Nat.{_<_}
+use native.Mathlib.Omega.{arith}
+use borrow.Author.Tests.{lt-ltb, le-leb, lt-leb}
+use borrow.Author.Needs.{needs}
+use Rattle.state.specs.Update.{restoreDomain}
+use Rattle.state.proofs.domains.restore_domain.Statement.{statement}
+use Rattle.state.proofs.domains.restore_domain.Tie as tie
+
+pub restore-domain-spec : {M : Type 1} → statement M
+unfolding restoreDomain
+restore-domain-spec =
+    tie.close
+    (tie.spec (λ c. rw (c .if1 .taken))
+    (λ c. let h : 0 < c .before .before .args .t1 .depth = omega arith in rw (lt-ltb _ _ h, lt-leb _ _ (c .if2 .taken)))
+    (λ c. search needs) (λ c. search needs) (λ c. search needs) (λ c. search needs) (λ c. search needs)
+    (λ c. let h : 0 < c .before .before .before .args .t1 .depth = omega arith in rw (lt-ltb _ _ h, le-leb _ _ (c .before .if2 .left))))

@@ -1,0 +1,5 @@
+pub mod Places
+pub mod Sound
+pub mod Lookup
+pub mod Update
+pub mod Laws

@@ -1,0 +1,59 @@
+-- What is looked up in the object table.
+use Prim.Native.Nat.{ℕ}
+use mathlib.Core.Bool.{Bool, not, cond, _&&_, _||_}
+use lib.Dec.{eqb}
+use Rattle.bounded.specs.Search.{first}
+use Rattle.state.specs.Places.{freeObject, objectAt, passwordAt, estateOf}
+use Rattle.state.specs.Sound.{free, covers}
+use Rattle.state.specs.declared.Object.{Object}
+use Rattle.state.specs.declared.Estate.{Estate}
+use Rattle.state.specs.declared.Table.{Table}
+
+-- "named by its first page (its base)"
+abbrev pub hasBase : ℕ → Object → Bool
+hasBase page o = not (free o) && eqb (o .base) page
+
+-- the object of an estate that passes a test, a free one where there is none; and its place, 8 where there is none
+abbrev pub objectWhere : (Object → Bool) → Estate → Object
+objectWhere test e = first (λ k. test (objectAt e k)) (objectAt e) freeObject 0 8
+
+abbrev pub placeWhere : (Object → Bool) → Estate → ℕ
+placeWhere test e = first (λ k. test (objectAt e k)) (λ k. k) 8 0 8
+
+-- the object whose run has the page
+unfoldable pub covering : Estate → ℕ → Object
+covering e page = objectWhere (λ o. covers o page) e
+
+-- the object with the base, and its place
+unfoldable pub based : Estate → ℕ → Object
+based e page = objectWhere (hasBase page) e
+
+unfoldable pub placeBased : Estate → ℕ → ℕ
+placeBased e page = placeWhere (hasBase page) e
+
+-- the same in the whole table
+unfoldable pub objectCovering : Table → ℕ → Object
+objectCovering t page = covering (estateOf t page) page
+
+unfoldable pub objectBased : Table → ℕ → Object
+objectBased t page = based (estateOf t page) page
+
+-- the first free place for an object
+unfoldable pub freePlace : Estate → ℕ
+freePlace e = placeWhere free e
+
+-- the place of a word among the ordinary passwords, 4 where it is none of them; at the word 0 the first free place
+unfoldable pub placeOf : Object → ℕ → ℕ
+placeOf o word = first (λ k. eqb (passwordAt o k .word) word) (λ k. k) 4 0 4
+
+-- the mode that a password has as an ordinary one, 0 where it is none; "A zero password is never true."
+unfoldable pub ordinaryMode : Object → ℕ → ℕ
+ordinaryMode o word = cond (eqb word 0) 0 (first (λ k. eqb (passwordAt o k .word) word) (λ k. passwordAt o k .mode) 0 0 4)
+
+-- the mode that a password has for the object: "The password of a registration has the positive mode 16."
+unfoldable pub modeOf : Object → ℕ → ℕ
+modeOf o word = cond (not (eqb word 0) && eqb (o .registration .password) word) 16 (ordinaryMode o word)
+
+-- the object has the password, that of its registration included
+unfoldable pub hasPassword : Object → ℕ → Bool
+hasPassword o word = not (eqb word 0) && (eqb (o .registration .password) word || not (eqb (placeOf o word) 4))

@@ -1,0 +1,101 @@
+-- What the calls change, part by part. Each is defined for every value, unsound ones too.
+use Prim.Native.Nat.{ℕ, _+_, _-_, max, min}
+use mathlib.Core.Bool.{true, false, cond, _&&_}
+use mathlib.Core.List.{List, _∷_}
+use lib.Dec.{leb, ltb, eqb}
+use lib.ListN.{set, replicate}
+use Rattle.bounded.specs.Fill.{tabulate}
+use Rattle.state.specs.Places.{noCapability, noPassword, freeRegistration, slotAt, savedAt}
+use Rattle.state.specs.Lookup.{placeOf}
+use Rattle.state.specs.declared.Capability.{Capability}
+use Rattle.state.specs.declared.Password.{Password}
+use Rattle.state.specs.declared.Registration.{Registration}
+use Rattle.state.specs.declared.Object.{Object}
+use Rattle.state.specs.declared.Estate.{Estate}
+use Rattle.state.specs.declared.Frame.{Frame}
+use Rattle.state.specs.declared.Domain.{Domain}
+use Rattle.state.specs.declared.State.{State}
+
+-- the slot at k once c stands at `at`: "later slots shift down by one"
+abbrev pub slotIn : Frame → ℕ → Capability → ℕ → Capability
+slotIn f at c k = cond (ltb k at) (slotAt f k) (cond (eqb k at) c (slotAt f (k - 1)))
+
+-- a slot more at a place, where there is room
+unfoldable pub insertSlot : Frame → ℕ → Capability → Frame
+insertSlot f at c =
+    cond (ltb (f .count) 8)
+    (record { slots = tabulate 8 (slotIn f at c); count = f .count + 1; locked = f .locked; whole = f .whole })
+    f
+
+-- the slot at k once that at `at` is gone: "later slots shift up"
+abbrev pub slotOut : Frame → ℕ → ℕ → Capability
+slotOut f at k = cond (ltb k at) (slotAt f k) (cond (ltb k 7) (slotAt f (k + 1)) noCapability)
+
+-- a slot less, where it stands
+unfoldable pub removeSlot : Frame → ℕ → Frame
+removeSlot f at =
+    cond (ltb at (f .count))
+    (record { slots = tabulate 8 (slotOut f at); count = f .count - 1; locked = f .locked; whole = f .whole })
+    f
+
+-- "locks it and all before it, so the locked count rises to slot + 1 if it is smaller, also under the whole lock; 255 sets the whole lock and leaves the count"
+unfoldable pub lockSlot : Frame → ℕ → Frame
+lockSlot f slot =
+    cond (eqb slot 255)
+    (record { slots = f .slots; count = f .count; locked = f .locked; whole = true })
+    (record { slots = f .slots; count = f .count; locked = max (f .locked) (slot + 1); whole = f .whole })
+
+-- "Merge inserts the registered Clist at the locked count, or if that is 0 at the smaller of 1 and the slot count; locks stay."
+unfoldable pub mergeList : Frame → Capability → Frame
+mergeList f c = insertSlot f (cond (eqb (f .locked) 0) (min 1 (f .count)) (f .locked)) c
+
+-- "Empty leaves one slot, the registered Clist, nothing locked."
+unfoldable pub onlyList : Capability → Frame
+onlyList c = record { slots = c ∷ replicate 7 noCapability; count = 1; locked = 0; whole = false }
+
+-- another active frame
+abbrev pub withActive : Domain → Frame → Domain
+withActive m f = record { active = f; saved = m .saved; depth = m .depth }
+
+-- "saves the domain": the active frame is saved and another takes its place, where there is room
+unfoldable pub saveDomain : Domain → Frame → Domain
+saveDomain m f = cond (ltb (m .depth) 4) (record { active = f; saved = set (m .saved) (m .depth) (m .active); depth = m .depth + 1 }) m
+
+-- "the last saved domain comes back", where there is one
+unfoldable pub restoreDomain : Domain → Domain
+restoreDomain m =
+    cond (ltb 0 (m .depth) && leb (m .depth) 4) (record { active = savedAt m (m .depth - 1); saved = m .saved; depth = m .depth - 1 }) m
+
+-- a new object, with its password in "RWXD is 15, the owner's mode"
+unfoldable pub newObject : ℕ → ℕ → ℕ → Object
+newObject base pages word =
+    record { base = base; pages = pages; passwords = record { word = word; mode = 15 } ∷ replicate 3 noPassword; registration = freeRegistration }
+
+-- other passwords, another registration
+abbrev pub withPasswords : Object → List Password → Object
+withPasswords o ps = record { base = o .base; pages = o .pages; passwords = ps; registration = o .registration }
+
+abbrev pub withRegistration : Object → Registration → Object
+withRegistration o g = record { base = o .base; pages = o .pages; passwords = o .passwords; registration = g }
+
+-- a password more, at the first free place: the choice of place is the program's
+unfoldable pub addPassword : Object → ℕ → ℕ → Object
+addPassword o word mode = withPasswords o (set (o .passwords) (placeOf o 0) (record { word = word; mode = mode }))
+
+-- "drops it, or the registration that has it"
+unfoldable pub dropPassword : Object → ℕ → Object
+dropPassword o word =
+    cond (eqb word 0) o
+    (cond (eqb (o .registration .password) word) (withRegistration o freeRegistration)
+    (withPasswords o (set (o .passwords) (placeOf o word) noPassword)))
+
+-- another object at a place of the estate; a free one clears the place
+abbrev pub withObject : Estate → ℕ → Object → Estate
+withObject e k o = record { objects = set (e .objects) k o }
+
+-- another estate, another domain
+abbrev pub withEstate : State → ℕ → Estate → State
+withEstate s d e = record { table = record { estates = set (s .table .estates) d e }; domains = s .domains }
+
+abbrev pub withDomain : State → ℕ → Domain → State
+withDomain s d m = record { table = s .table; domains = set (s .domains) d m }

@@ -1,0 +1,136 @@
+// The objects of an estate, and the parts of a state put back.
+use crate::Capability;
+use crate::Domain;
+use crate::Estate;
+use crate::Frame;
+use crate::Object;
+use crate::State;
+use crate::Table;
+use crate::objects::covers;
+use crate::objects::free_object;
+use crate::objects::has_base;
+ghost use mathlib.Core.Path.{_≡_};
+ghost use Rattle.state.specs.Places.{emptyState};
+ghost use Rattle.state.specs.Lookup.{covering, based, placeBased, freePlace};
+ghost use Rattle.state.specs.Update.{withObject, withEstate, withDomain};
+
+// The object whose run has the page, a free one where there is none.
+pub fn covering(e: Estate, page: u64) -> Object
+    ensures { λ r. ⌜ r ≡ covering e page ⌝ }
+{
+    let mut k = 0;
+    while k < 8 {
+        let o = e.objects[k];
+        if covers(o, page) {
+            return o;
+        }
+        k += 1;
+    }
+    free_object()
+}
+
+// The place of the object with the base, 8 where there is none.
+pub fn place_based(e: Estate, page: u64) -> usize
+    ensures { λ r. ⌜ r ≡ placeBased e page ⌝ }
+{
+    let mut k = 0;
+    while k < 8 {
+        let o = e.objects[k];
+        if has_base(o, page) {
+            return k;
+        }
+        k += 1;
+    }
+    8
+}
+
+// The object with the base, a free one where there is none.
+pub fn based(e: Estate, page: u64) -> Object
+    ensures { λ r. ⌜ r ≡ based e page ⌝ }
+{
+    let k = place_based(e, page);
+    if 8 <= k {
+        return free_object();
+    }
+    e.objects[k]
+}
+
+// The first free place, 8 where there is none.
+pub fn free_place(e: Estate) -> usize
+    ensures { λ r. ⌜ r ≡ freePlace e ⌝ }
+{
+    let mut k = 0;
+    while k < 8 {
+        let o = e.objects[k];
+        if o.pages == 0 {
+            return k;
+        }
+        k += 1;
+    }
+    8
+}
+
+// Another object at a place; a free one clears it. Past the last place nothing changes.
+pub fn with_object(e: Estate, k: usize, o: Object) -> Estate
+    ensures { λ r. ⌜ r ≡ withObject e k o ⌝ }
+{
+    if 8 <= k {
+        return e;
+    }
+    let mut r = e;
+    r.objects[k] = o;
+    r
+}
+
+// Another estate. Past the last nothing changes.
+pub fn with_estate(s: State, d: usize, e: Estate) -> State
+    ensures { λ r. ⌜ r ≡ withEstate s d e ⌝ }
+{
+    if 4 <= d {
+        return s;
+    }
+    let mut t = s.table;
+    t.estates[d] = e;
+    let mut r = s;
+    r.table = t;
+    r
+}
+
+// Another domain. Past the last nothing changes.
+pub fn with_domain(s: State, d: usize, m: Domain) -> State
+    ensures { λ r. ⌜ r ≡ withDomain s d m ⌝ }
+{
+    if 4 <= d {
+        return s;
+    }
+    let mut r = s;
+    r.domains[d] = m;
+    r
+}
+
+// The state with no objects and no slots.
+pub fn empty_state() -> State
+    ensures { λ r. ⌜ r ≡ emptyState ⌝ }
+{
+    let e = Estate {
+        objects: [free_object(); 8],
+    };
+    let f = Frame {
+        slots: [Capability {
+            page: 0,
+            password: 0,
+        }; 8],
+        count: 0,
+        locked: 0,
+        whole: false,
+    };
+    let m = Domain {
+        active: f,
+        saved: [f; 4],
+        depth: 0,
+    };
+    State {
+        table: Table { estates: [e; 4] },
+        domains: [m; 4],
+    }
+}

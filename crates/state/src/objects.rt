@@ -1,0 +1,174 @@
+// One object: its run of pages, its passwords and its registration.
+use crate::Capability;
+use crate::Object;
+use crate::Password;
+use crate::Registration;
+ghost use lib.ListN.{set};
+ghost use mathlib.Core.Path.{_≡_};
+ghost use Rattle.state.specs.Places.{freeRegistration, freeObject};
+ghost use Rattle.state.specs.Sound.{covers};
+ghost use Rattle.state.specs.Lookup.{hasBase, placeOf, ordinaryMode, modeOf, hasPassword};
+ghost use Rattle.state.specs.Update.{newObject, withPasswords, addPassword, dropPassword, withRegistration};
+
+// Whether the object's run has the page.
+pub fn covers(o: Object, page: u64) -> bool
+    ensures { λ r. ⌜ r ≡ covers o page ⌝ }
+{
+    let base = o.base as u64;
+    let pages = o.pages as u64;
+    (base <= page) & (page < base + pages)
+}
+
+// Whether the object stands and has the base.
+pub fn has_base(o: Object, page: u64) -> bool
+    ensures { λ r. ⌜ r ≡ hasBase page o ⌝ }
+{
+    (o.pages != 0) & (o.base as u64 == page)
+}
+
+// The place of a word among the ordinary passwords, 4 where it is none of them.
+pub fn place_of(o: Object, word: u64) -> usize
+    ensures { λ r. ⌜ r ≡ placeOf o word ⌝ }
+{
+    let mut k = 0;
+    while k < 4 {
+        let p = o.passwords[k];
+        if p.word == word {
+            return k;
+        }
+        k += 1;
+    }
+    4
+}
+
+// The mode that a password has as an ordinary one of the object, 0 where it is none.
+pub fn ordinary_mode(o: Object, word: u64) -> u8
+    ensures { λ r. ⌜ r ≡ ordinaryMode o word ⌝ }
+{
+    if word == 0 {
+        return 0;
+    }
+    let k = place_of(o, word);
+    if 4 <= k {
+        return 0;
+    }
+    let p = o.passwords[k];
+    p.mode
+}
+
+// The mode that a password has for the object, the registration's included; 0 where it has none.
+pub fn mode_of(o: Object, word: u64) -> u8
+    ensures { λ r. ⌜ r ≡ modeOf o word ⌝ }
+{
+    let g = o.registration;
+    if (word != 0) & (g.password == word) {
+        return 16;
+    }
+    ordinary_mode(o, word)
+}
+
+// Whether the object has the password, the registration's included.
+pub fn has_password(o: Object, word: u64) -> bool
+    ensures { λ r. ⌜ r ≡ hasPassword o word ⌝ }
+{
+    let g = o.registration;
+    let k = place_of(o, word);
+    (word != 0) & ((g.password == word) | (k != 4))
+}
+
+// No registration.
+pub fn free_registration() -> Registration
+    ensures { λ r. ⌜ r ≡ freeRegistration ⌝ }
+{
+    Registration {
+        password: 0,
+        list: Capability {
+            page: 0,
+            password: 0,
+        },
+        count: 0,
+        entries: [0; 4],
+    }
+}
+
+// No object.
+pub fn free_object() -> Object
+    ensures { λ r. ⌜ r ≡ freeObject ⌝ }
+{
+    Object {
+        base: 0,
+        pages: 0,
+        passwords: [Password { word: 0, mode: 0 }; 4],
+        registration: free_registration(),
+    }
+}
+
+// A new object with one password in the owner's mode.
+pub fn new_object(base: u8, pages: u8, word: u64) -> Object
+    ensures { λ r. ⌜ r ≡ newObject base pages word ⌝ }
+{
+    let none = Password { word: 0, mode: 0 };
+    Object {
+        base: base,
+        pages: pages,
+        passwords: [
+            Password {
+                word: word,
+                mode: 15,
+            },
+            none,
+            none,
+            none,
+        ],
+        registration: free_registration(),
+    }
+}
+
+// Another password at a place; the word 0 clears it. Past the last place nothing changes.
+fn with_password(o: Object, k: usize, p: Password) -> Object
+    ensures { λ r. ⌜ r ≡ withPasswords o (set (o .passwords) k p) ⌝ }
+{
+    if 4 <= k {
+        return o;
+    }
+    let mut r = o;
+    r.passwords[k] = p;
+    r
+}
+
+// A password more, at the first free place. With four nothing changes.
+pub fn add_password(o: Object, word: u64, mode: u8) -> Object
+    ensures { λ r. ⌜ r ≡ addPassword o word mode ⌝ }
+{
+    with_password(
+        o,
+        place_of(o, 0),
+        Password {
+            word: word,
+            mode: mode,
+        },
+    )
+}
+
+// Drops a password, or the registration that has it. An absent password changes nothing.
+pub fn drop_password(o: Object, word: u64) -> Object
+    ensures { λ r. ⌜ r ≡ dropPassword o word ⌝ }
+{
+    if word == 0 {
+        return o;
+    }
+    let g = o.registration;
+    if g.password == word {
+        return with_registration(o, free_registration());
+    }
+    with_password(o, place_of(o, word), Password { word: 0, mode: 0 })
+}
+
+// Another registration.
+pub fn with_registration(o: Object, g: Registration) -> Object
+    ensures { λ r. ⌜ r ≡ withRegistration o g ⌝ }
+{
+    let mut r = o;
+    r.registration = g;
+    r
+}
