@@ -12,12 +12,10 @@ use Rattle.state.specs.Update.{newObject, onlyList}
 use Rattle.state.specs.declared.Estate.{Estate}
 use Rattle.state.specs.declared.Domain.{Domain}
 use Rattle.state.specs.declared.State.{State}
-use Rattle.calls.specs.Answers.{noFields}
 use Rattle.calls.specs.View.{check, firstFailing}
-use Rattle.calls.specs.Step.{Result, refused, storeCheck}
+use Rattle.calls.specs.Step.{Result, world, result, refused, doneWith, storeCheck}
 use Rattle.calls.specs.declared.Refusal.{Refusal}
 use Rattle.calls.specs.declared.Refusal.the-variants.{NoDomain, OutOfRange}
-use Rattle.calls.specs.declared.Answer.the-variants.{Done}
 
 -- the home password of a domain
 abbrev pub homeOf : List ℕ → ℕ → ℕ
@@ -45,15 +43,15 @@ bootWords homes = homePair homes 3 (homePair homes 2 (homePair homes 1 (homePair
 
 -- "A refused boot gives the state with no objects and no slots, store unchanged"
 abbrev pub booted : List ℕ → List ℕ → Option Refusal → Result
-booted homes words none = record { outcome = record { answer = Done 0; fields = noFields; state = bootState homes }; words = bootWords homes }
-booted homes words (some r) = refused (record { state = emptyState; words = words }) r
+booted homes words none = result (doneWith (bootState homes) 0) (bootWords homes)
+booted homes words (some r) = refused (world emptyState words) r
 
 -- BT by a domain on the words of a store: 2, 4 and 5
 unfoldable pub boot : List ℕ → ℕ → List ℕ → Result
 boot words d homes =
     booted homes words
     (firstFailing
-    (storeCheck (record { state = emptyState; words = words })
+    (storeCheck (world emptyState words)
     ∷ check NoDomain (ltb d 4)
     ∷ check OutOfRange (below 4 (λ k. not (eqb (homeOf homes k) 0)))
     ∷ []))

@@ -7,3 +7,4 @@ pub mod Step
 pub mod Boot
 pub mod Runs
 pub mod Marked
+pub mod Laws

@@ -1,10 +1,12 @@
 -- What every call does: it reads a view, is checked against it, and answers with a value and changes.
 use Prim.Native.Nat.{ℕ}
+use mathlib.Core.Bool.{Bool, not, _||_}
 use mathlib.Core.List.{List, _∷_}
 use mathlib.Core.Option.{Option, none, some}
 use lib.Dec.{eqb}
 use lib.ListN.{length}
 use Rattle.state.specs.Sound.{sound}
+use Rattle.state.specs.declared.State.{State}
 use Rattle.judge.specs.Judged.{judged}
 use Rattle.calls.specs.Answers.{noFields}
 use Rattle.calls.specs.View.{World, Judging, View, view, Check, check, firstFailing}
@@ -21,19 +23,30 @@ pub record Result : Type 0 where
   pub outcome : Outcome
   pub words : List ℕ
 
+abbrev pub world : State → List ℕ → World
+world s words = record { state = s; words = words }
+
+abbrev pub result : Outcome → List ℕ → Result
+result o words = record { outcome = o; words = words }
+
 abbrev pub worldOf : Result → World
-worldOf r = record { state = r .outcome .state; words = r .words }
+worldOf r = world (r .outcome .state) (r .words)
 
 -- "A refused call gives its number and the value 0 and changes no word, table, slot, lock or saved domain."
+abbrev pub refusedWith : State → Refusal → Outcome
+refusedWith s r = record { answer = Refused r; fields = noFields; state = s }
+
 abbrev pub refused : World → Refusal → Result
-refused w r = record { outcome = record { answer = Refused r; fields = noFields; state = w .state }; words = w .words }
+refused w r = result (refusedWith (w .state) r) (w .words)
+
+-- a done call's outcome, without fields
+abbrev pub doneWith : State → ℕ → Outcome
+doneWith s value = record { answer = Done value; fields = noFields; state = s }
 
 abbrev pub done : World → ℕ → Call → View → Result
 done w d c v =
-    record {
-      outcome = record { answer = Done (value c v); fields = fields c v; state = applyAll (changes d c v) w .state };
-      words = applyAll (changes d c v) w .words;
-    }
+    result (record { answer = Done (value c v); fields = fields c v; state = applyAll (changes d c v) w .state })
+    (applyAll (changes d c v) w .words)
 
 abbrev pub concluded : Option Refusal → World → ℕ → Call → View → Result
 concluded none w d c v = done w d c v
@@ -63,3 +76,7 @@ step = stepBy judged
 -- what every call does after check 3
 abbrev pub checked : World → ℕ → Call → Result
 checked = checkedBy judged
+
+-- check 3 passes, or is not reached
+unfoldable pub admitted : World → Bool
+admitted w = not (eqb (length (w .words)) 8192) || sound (w .state)

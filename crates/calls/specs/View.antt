@@ -122,3 +122,13 @@ view judging w d c =
           (search judging w (domainAt (w .state) d .active) (wanted c));
       live = passes (w .state .table) (presented c);
     }
+
+-- the view of a call whose checks before judging pass
+unfoldable pub seen : Judging → World → ℕ → Call → View
+seen judging w d c =
+    record {
+      domain = domainAt (w .state) d;
+      estate = estateAt (w .state .table) d;
+      found = search judging w (domainAt (w .state) d .active) (wanted c);
+      live = passes (w .state .table) (presented c);
+    }

@@ -1,5 +1,9 @@
 // The calls of the monitor.
 use state::State;
+use state::soundness::sound;
+ghost use mathlib.Core.Path.{_≡_};
+ghost use Rattle.calls.specs.Answers.{noFields};
+ghost use Rattle.calls.specs.Step.{world, refusedWith, doneWith, admitted};
 
 // A call with its arguments, as they come.
 pub enum Call {
@@ -104,4 +108,43 @@ pub struct Outcome {
     pub answer: Answer,
     pub fields: Fields,
     pub state: State,
+}
+
+// No fields.
+pub fn no_fields() -> Fields
+    ensures { λ r. ⌜ r ≡ noFields ⌝ }
+{
+    Fields {
+        count: 0,
+        values: [0; 11],
+    }
+}
+
+// A refusal: the state as it came.
+pub fn refused(s: State, why: Refusal) -> Outcome
+    ensures { λ r. ⌜ r ≡ refusedWith s why ⌝ }
+{
+    Outcome {
+        answer: Answer::Refused(why),
+        fields: no_fields(),
+        state: s,
+    }
+}
+
+// A done call with its value and the state after it.
+pub fn done(s: State, value: u64) -> Outcome
+    ensures { λ r. ⌜ r ≡ doneWith s value ⌝ }
+{
+    Outcome {
+        answer: Answer::Done(value),
+        fields: no_fields(),
+        state: s,
+    }
+}
+
+// Whether check 3 passes, or is not reached.
+pub fn admits(s: State, store: &[u64]) -> bool
+    ensures { λ r. ⌜ r ≡ admitted (world s (now (store .entry))) ⌝ }
+{
+    (store.len() != 8192) | sound(s)
 }

@@ -5,3 +5,9 @@ pub mod Domains
 pub mod Lookup
 pub mod Objects
 pub mod Estates
+pub mod Found
+pub mod Same
+pub mod Full
+pub mod Put
+pub mod PutObject
+pub mod PutPassword

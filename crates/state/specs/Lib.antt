@@ -2,4 +2,5 @@ pub mod Places
 pub mod Sound
 pub mod Lookup
 pub mod Update
+pub mod Same
 pub mod Laws

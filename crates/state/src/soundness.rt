@@ -66,7 +66,7 @@ fn registration_ok(o: Object) -> bool
 }
 
 // Whether the object lies in the estate of domain d.
-fn lies_in(o: Object, d: u8) -> bool
+pub fn lies_in(o: Object, d: u8) -> bool
     ensures { λ r. ⌜ r ≡ liesIn o d ⌝ }
 {
     let start = 32 * (d as u64);

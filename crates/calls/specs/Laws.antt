@@ -1,0 +1,9 @@
+pub mod Checked
+pub mod Returns
+pub mod Order
+pub mod Passed
+pub mod Fit
+pub mod Sound
+pub mod Booted
+pub mod Agree
+pub mod Places

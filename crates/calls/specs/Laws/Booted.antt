@@ -1,0 +1,117 @@
+-- What BT leaves: a sound state, and a store of 8,192 words.
+use Prim.Native.Nat.{ℕ, _*_, _<_}
+use mathlib.Core.Path.{_≡_, refl, ap}
+use mathlib.Core.Bool.{true, not}
+use mathlib.Core.List.{List, [], _∷_}
+use mathlib.Core.Logic.{_↔_, Iff·trans}
+use mathlib.Core.Option.{Option, none, some}
+use native.Mathlib.Omega.{arith}
+use lib.Dec.{ltb, eqb}
+use lib.ListN.{length, length-set, length-replicate, getD-replicate}
+use Rattle.bounded.specs.Every.{below}
+use Rattle.bounded.specs.Fill.{tabulate-at}
+use Rattle.state.specs.Places.{noObject, noEstate, noDomain, freeObject, emptyEstate, emptyDomain, emptyState}
+use Rattle.state.specs.Sound.{apart, apartAt, apartFrom, objectOk, estateOk, slotOk, frameBounds, frameOk, savedOk, domainOk, sound}
+use Rattle.state.specs.Update.{newObject}
+use Rattle.state.specs.Laws.Frames.{only-sound}
+use Rattle.state.specs.Laws.Domains.{active-sound}
+use Rattle.state.specs.Laws.Objects.{new-sound}
+use Rattle.state.specs.Laws.Estates.{object-apart-sound, apart-free, empty-sound}
+use Rattle.state.specs.Laws.Parts.{apart-sym, parts-state}
+use Rattle.calls.specs.Answers.{numberOf}
+use Rattle.calls.specs.View.{Check, check, firstFailing}
+use Rattle.calls.specs.Step.{world, result, doneWith, storeCheck}
+use Rattle.calls.specs.Boot.{homeOf, homeEstate, homeDomain, bootState, homePair, bootWords, booted, boot}
+use Rattle.calls.specs.Laws.Order.{ascending, AllHold, FailsFirst, none-fails, first-fails, Answering, answers-refused, answers-done}
+use Rattle.calls.specs.Laws.Passed.{Unchanged}
+use Rattle.calls.specs.declared.Refusal.{Refusal}
+use Rattle.calls.specs.declared.Refusal.the-variants.{NoDomain, OutOfRange}
+use Rattle.calls.specs.declared.Answer.the-variants.{Refused}
+
+empty-estate : (d : ℕ) → estateOk emptyEstate d ≡ true
+unfolding estateOk objectOk apartFrom apartAt apart below
+empty-estate d = refl
+
+empty-domain : domainOk emptyDomain ≡ true
+unfolding domainOk savedOk frameOk frameBounds slotOk below
+empty-domain = refl
+
+home-estate : (homes : List ℕ) (d : ℕ) → estateOk (homeEstate homes d) d ≡ true
+unfolding homeEstate
+home-estate homes d =
+    object-apart-sound emptyEstate d 0 (newObject (32 * d) 1 (homeOf homes d)) (new-sound (32 * d) 1 (homeOf homes d) d (omega arith) (omega arith))
+    (λ j l ne. rw (getD-replicate 8 j freeObject noObject l) (apart-sym _ freeObject (apart-free _ freeObject refl))) (empty-estate d)
+
+home-domain : (homes : List ℕ) (d : ℕ) → d < 4 → domainOk (homeDomain homes d) ≡ true
+unfolding homeDomain
+home-domain homes d l = active-sound emptyDomain _ (only-sound (record { page = 32 * d; password = homeOf homes d }) (omega arith)) empty-domain
+
+-- the state of a boot is sound, whatever the home passwords
+pub boot-state-sound : (homes : List ℕ) → sound (bootState homes) ≡ true
+unfolding bootState
+boot-state-sound homes =
+    parts-state _
+    (record {
+      long-estates = refl;
+      long-domains = refl;
+      estate = λ d l. rw (tabulate-at 4 (homeEstate homes) d noEstate l) (home-estate homes d);
+      domain = λ d l. rw (tabulate-at 4 (homeDomain homes) d noDomain l) (home-domain homes d l);
+    })
+
+-- its store has 8,192 words
+pub boot-words-length : (homes : List ℕ) → length (bootWords homes) ≡ 8192
+unfolding bootWords homePair
+boot-words-length homes = simp (length-set, length-replicate)
+
+-- the checks of BT: 2, 4 and 5
+abbrev pub bootChecks : List ℕ → ℕ → List ℕ → List Check
+bootChecks words d homes =
+    storeCheck (world emptyState words)
+    ∷ check NoDomain (ltb d 4)
+    ∷ check OutOfRange (below 4 (λ k. not (eqb (homeOf homes k) 0)))
+    ∷ []
+
+module _ (words : List ℕ) (d : ℕ) (homes : List ℕ) where
+  -- they come in the order of their numbers
+  pub boot-ascends : ascending 2 (bootChecks words d homes) ≡ true
+  unfolding ascending
+  boot-ascends = refl
+
+  answering : Answering (λ o. booted homes words o .outcome .answer)
+  answering = record { value = 0; done = refl; refused = λ r. refl }
+
+  boot-said : (why : Refusal) → boot words d homes .outcome .answer ≡ Refused why ↔ firstFailing (bootChecks words d homes) ≡ some why
+  unfolding boot
+  boot-said why = answers-refused answering (firstFailing (bootChecks words d homes)) why
+
+  -- BT is refused exactly where one of them fails and each before it holds
+  pub boot-first : (why : Refusal) → boot words d homes .outcome .answer ≡ Refused why ↔ FailsFirst (bootChecks words d homes) why
+  boot-first why = Iff·trans (boot-said why) (first-fails (bootChecks words d homes) why)
+
+  -- a refused one gives the state with no objects and no slots, and the store as it was
+  pub boot-refused : (why : Refusal) → boot words d homes .outcome .answer ≡ Refused why → Unchanged (world emptyState words) (boot words d homes)
+  unfolding boot
+  boot-refused why h = rw (boot-said why .0 h) (record { state = refl; words = refl; value = refl; fields = refl })
+
+  -- it is done exactly where each of them holds
+  pub boot-hold : numberOf (boot words d homes .outcome .answer) ≡ 0 ↔ AllHold (bootChecks words d homes)
+  unfolding boot
+  boot-hold = Iff·trans (answers-done answering (firstFailing (bootChecks words d homes))) (none-fails (bootChecks words d homes))
+
+  -- a done one gives the state and the store of the boot, and the value 0
+  pub boot-done : numberOf (boot words d homes .outcome .answer) ≡ 0 → boot words d homes ≡ result (doneWith (bootState homes) 0) (bootWords homes)
+  unfolding boot
+  boot-done h = ap (booted homes words) (none-fails (bootChecks words d homes) .1 (boot-hold .0 h))
+
+  -- 8,192 words
+  pub boot-long : numberOf (boot words d homes .outcome .answer) ≡ 0 → length (boot words d homes .words) ≡ 8192
+  boot-long h = rw (boot-done h) (boot-words-length homes)
+
+  -- THE STATE THAT BT GIVES IS SOUND, done or refused
+  pub boot-sound : sound (boot words d homes .outcome .state) ≡ true
+  unfolding boot
+  boot-sound = go (firstFailing (bootChecks words d homes))
+    where
+      go : (o : Option Refusal) → sound (booted homes words o .outcome .state) ≡ true
+      go none = boot-state-sound homes
+      go (some r) = empty-sound

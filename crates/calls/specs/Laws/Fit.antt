@@ -1,0 +1,200 @@
+-- The changes of a done call are fit: what each puts in is sound, and lies in the store.
+use Prim.Native.Nat.{ℕ, _+_, _*_, _/_, _<_, _≤_}
+use mathlib.Core.Path.{_≡_, refl}
+use mathlib.Core.Bool.{true, false, not, cond, _&&_, _||_}
+use mathlib.Core.List.{List, [], _∷_}
+use mathlib.Core.Option.{Option}
+use native.Mathlib.Omega.{arith}
+use lib.Dec.{leb, ltb, eqb}
+use borrow.Author.Tests.{leb-true, ltb-true, lt-ltb, ne-eqb, not-true}
+use Rattle.bounded.specs.Bools.{and-left, and-right, guarded, unless, cond-ind}
+use Rattle.bounded.specs.Every.{below-at}
+use Rattle.bounded.specs.Fill.{tabulate-at}
+use Rattle.rights.specs.Bits.{bit}
+use Rattle.state.specs.Places.{objectAt, estateAt, domainAt}
+use Rattle.state.specs.Sound.{covers, apart, liesIn, objectOk, estateOk, frameOk, domainOk, sound}
+use Rattle.state.specs.Lookup.{hasBase, covering, based, placeBased, objectBased, objectCovering, hasPassword}
+use Rattle.state.specs.Update.{newObject, withObject, withRegistration, mergeList, onlyList}
+use Rattle.state.specs.Laws.Frames.{insert-sound, remove-sound, lock-sound, merge-sound, only-sound}
+use Rattle.state.specs.Laws.Domains.{active-sound, save-sound, restore-sound}
+use Rattle.state.specs.Laws.Objects.{SameRun, new-sound, add-sound, add-run, register-sound, register-run, drop-sound, drop-run}
+use Rattle.state.specs.Laws.Estates.{object-apart-sound, found-run-sound, clear-sound}
+use Rattle.state.specs.Laws.Parts.{not-zero, ObjectBounds, RegistrationSound, registration-parts, domain-parts, state-parts}
+use Rattle.state.specs.Laws.Lookup.{stands-sound}
+use Rattle.state.specs.Laws.Found.{FoundSound, based-sound, covering-sound}
+use Rattle.state.specs.declared.Capability.{Capability}
+use Rattle.state.specs.declared.Object.{Object}
+use Rattle.state.specs.declared.Estate.{Estate}
+use Rattle.state.specs.declared.Frame.{Frame}
+use Rattle.judge.specs.Search.{targeted}
+use Rattle.judge.specs.Judged.{judged}
+use Rattle.judge.specs.Laws.Grant.{TruePair, grant-means, grant-registered}
+use Rattle.judge.specs.declared.Target.{Target}
+use Rattle.judge.specs.declared.Target.the-variants.{Address, Base}
+use Rattle.judge.specs.declared.Judgement.{Judgement}
+use Rattle.judge.specs.declared.Judgement.the-variants.{Granted}
+use Rattle.calls.specs.Arguments.{rights, inRange, entryOf, entriesAll}
+use Rattle.calls.specs.View.{World, Found, search, foundBy, unlocked, seen}
+use Rattle.calls.specs.Checks.{isSome, objectOf, estateOf, runFree, late}
+use Rattle.calls.specs.Changes.{Change, word, zeros, estate, domain, capability, registration, entered, changes}
+use Rattle.calls.specs.Laws.Passed.{Passes}
+use Rattle.calls.specs.declared.Call.{Call}
+use Rattle.calls.specs.declared.Call.the-variants.{Read, Write, Execute, Lookup, Create, Delete, AddPassword, DropPassword, Register, Insert, Remove, Get, Lock, PdxCall, PdxReturn}
+use Rattle.calls.specs.declared.Presented.{Presented}
+use Rattle.calls.specs.declared.Entries.{Entries}
+
+-- a change that puts a sound estate or domain in its place, or writes in the store
+abbrev pub Fit : Change → Type 0
+Fit (word a x) = Unit {0}
+Fit (zeros a n) = a + n ≤ 8192
+Fit (estate e x) = estateOk x e ≡ true
+Fit (domain d m) = domainOk m ≡ true
+
+abbrev pub AllFit : List Change → Type 0
+AllFit [] = Unit {0}
+AllFit (c ∷ cs) = Fit c × AllFit cs
+
+-- a search that found something was granted by a pair
+record Granting (w : World) (f : Frame) (target : Target) (r : ℕ) : Type 0 where
+  pub pair : ℕ
+  pub judgement : judged (w .state .table) (w .words) f target r ≡ Granted pair
+  pub pages : 0 < targeted (w .state .table) target .pages
+  pub means : TruePair (w .words) (targeted (w .state .table) target) r pair
+
+was-granted : (w : World) (f : Frame) (target : Target) (r : ℕ) → isSome (search judged w f (rights target r)) ≡ true → Granting w f target r
+was-granted w f target r h = go (judged (w .state .table) (w .words) f target r) refl h
+  where
+    go : (j : Judgement) → judged (w .state .table) (w .words) f target r ≡ j → isSome (foundBy w target j) ≡ true → Granting w f target r
+    go (Granted pair) e h =
+        let m = grant-means (w .state .table) (w .words) f target r pair e in
+        record { pair = pair; judgement = e; pages = not-zero _ (m .stands); means = m }
+    go Judgement.Refused e h = let z : _≡_ {A = ℕ} 0 1 = cc in absurd (omega arith)
+
+-- the object with the base, found by a search for rights on it
+abbrev owned : World → Frame → ℕ → ℕ → Option Found
+owned w f b r = search judged w f (rights (Base b) r)
+
+module _ (w : World) (f : Frame) (b r : ℕ) (h : sound (w .state) ≡ true) (s : isSome (owned w f b r) ≡ true) where
+  found : FoundSound (hasBase b) (w .state) b
+  found = based-sound (w .state) b h (was-granted w f (Base b) r s .pages)
+
+  owned-estate : estateOk (estateOf (owned w f b r)) (b / 32) ≡ true
+  owned-estate = rw (was-granted w f (Base b) r s .judgement) (found .sound-estate)
+
+  owned-sound : objectOk (objectOf (owned w f b r)) (b / 32) ≡ true
+  unfolding objectBased based
+  owned-sound = rw (was-granted w f (Base b) r s .judgement) (stands-sound (hasBase b) _ (b / 32) (found .stands) (found .sound-estate))
+
+  -- another object with its run, in its place
+  owned-becomes : (o : Object) → SameRun o (objectOf (owned w f b r)) → objectOk o (b / 32) ≡ true
+      → estateOk (withObject (estateOf (owned w f b r)) (placeBased (estateOf (owned w f b r)) b) o) (b / 32) ≡ true
+  unfolding objectBased based placeBased
+  owned-becomes o = rw (was-granted w f (Base b) r s .judgement) (λ m p. found-run-sound (hasBase b) _ (b / 32) o (found .stands) m p (found .sound-estate))
+
+-- a new object that lies in the estate and meets no other
+new-fit : (e : Estate) (d place p n k : ℕ) → estateOk e d ≡ true → liesIn (newObject p n k) d && runFree e (newObject p n k) ≡ true
+    → (estateOk (withObject e place (newObject p n k)) d ≡ true) × (p + n ≤ 32 * d + 32)
+unfolding liesIn runFree newObject
+new-fit e d place p n k h t =
+    let o = newObject p n k in
+    let lies = and-left (liesIn o d) _ t in
+    let to = leb-true _ _ (and-right (leb (32 * d) p) _ lies) in
+    let clear = below-at 8 (λ j. apart (objectAt e j) o) (and-right (liesIn o d) _ t) in
+    (object-apart-sound e d place o (new-sound p n k d (leb-true _ _ (and-left _ _ lies)) to) (λ j l ne. clear j l) h, to)
+
+-- a registration as it is asked for, with its entries inside the object
+registered-sound : (o : Object) (k : ℕ) (l : Presented) (es : Entries) → l .page < 128 → 0 < es .count → es .count ≤ 4
+    → entriesAll (λ a. covers o (a / 64)) es ≡ true → RegistrationSound (withRegistration o (registration k l es))
+unfolding registration covers
+registered-sound o k l es p some few inside =
+    record {
+      list = p;
+      some = some;
+      few = few;
+      entry = λ i m.
+          rw (tabulate-at 4 (λ j. cond (ltb j (es .count)) (entryOf es j) 0) i 0 (omega arith), lt-ltb i (es .count) m)
+          (guarded (es .count) i _ (below-at 4 (λ j. leb (es .count) j || covers o (entryOf es j / 64)) inside i (omega arith)) m);
+    }
+
+registered-fit : (o : Object) (d b k : ℕ) (l : Presented) (es : Entries) → inRange (Register b k l es) ≡ true
+    → entriesAll (λ a. covers o (a / 64)) es ≡ true → not (hasPassword o k) ≡ true → objectOk o d ≡ true
+    → objectOk (withRegistration o (registration k l es)) d ≡ true
+unfolding inRange registration
+registered-fit o d b k l es range inside new h =
+    let first = and-left _ (entriesAll (λ a. ltb a 8192) es) range in
+    let few = and-right (ltb b 128 && not (eqb k 0) && ltb (l .page) 128 && ltb 0 (es .count)) _ first in
+    let third = and-left _ (leb (es .count) 4) first in
+    let some = and-right (ltb b 128 && not (eqb k 0) && ltb (l .page) 128) _ third in
+    let page = and-right (ltb b 128 && not (eqb k 0)) _ (and-left _ (ltb 0 (es .count)) third) in
+    register-sound o d _ refl (not-true _ new)
+    (λ p. registered-sound o k l es (ltb-true _ 128 page) (ltb-true 0 _ some) (leb-true _ 4 few) inside) h
+
+-- the list of a registration that P is granted on names a page
+entered-list : (w : World) (f : Frame) (a : ℕ) → sound (w .state) ≡ true → isSome (search judged w f (rights (Address a) 16)) ≡ true
+    → objectOf (search judged w f (rights (Address a) 16)) .registration .list .page < 128
+unfolding bit objectCovering covering
+entered-list w f a h s =
+    let g = was-granted w f (Address a) 16 s in
+    let o = objectCovering (w .state .table) (a / 64) in
+    let b : ObjectBounds o (a / 64 / 32) = covering-sound (w .state) (a / 64) h (g .pages) .bounds in
+    let e = grant-registered (w .words) o 16 (g .pair) (a / 64 / 32) b refl (g .means) in
+    rw (g .judgement) (registration-parts o (b .registration) (rw e (g .means .nonzero)) .list)
+
+-- the frame that a PDX call runs in
+entered-sound : (ch : ℕ) (f : Frame) (c : Capability) → c .page < 128 → frameOk false f ≡ true → frameOk false (entered ch f c) ≡ true
+entered-sound ch f c p h =
+    cond-ind (λ x. frameOk false x ≡ true) (eqb ch 0) (mergeList f c) (onlyList c) (λ e. merge-sound f c p h) (λ e. only-sound c p)
+
+-- THE CHANGES OF A DONE CALL ARE FIT
+pub done-fit : (w : World) (d : ℕ) (c : Call) → sound (w .state) ≡ true → Passes w d c → AllFit (changes d c (seen judged w d c))
+unfolding changes seen late inRange unlocked
+done-fit w d (Read a) h p = tt
+done-fit w d (Write a x) h p = (tt, tt)
+done-fit w d (Execute a) h p = tt
+done-fit w d (Lookup a r) h p = tt
+done-fit w d (Create a n k) h p =
+    let r = new-fit (estateAt (w .state .table) d) d _ a n k (state-parts (w .state) h .estate d (p .domain)) (p .rest .0) in
+    (r .0, (omega (arith, p .domain, r .1), tt))
+done-fit w d (Delete b) h p = (clear-sound _ (b / 32) _ (owned-estate w (domainAt (w .state) d .active) b 8 h (p .rest .0)), tt)
+done-fit w d (AddPassword b k m) h p =
+    let f = domainAt (w .state) d .active in
+    let o = objectOf (owned w f b 15) in
+    let legal = and-right (ltb b 128 && not (eqb k 0)) _ (p .range) in (
+      owned-becomes w f b 15 h (p .rest .0) _ (add-run o k m)
+          (add-sound o (b / 32) k m (not-true _ (p .rest .1 .0)) legal (owned-sound w f b 15 h (p .rest .0))),
+      tt,
+    )
+done-fit w d (DropPassword b k) h p =
+    let f = domainAt (w .state) d .active in
+    let o = objectOf (owned w f b 15) in
+    (owned-becomes w f b 15 h (p .rest .0) _ (drop-run o k) (drop-sound o (b / 32) k (owned-sound w f b 15 h (p .rest .0))), tt)
+done-fit w d (Register b k l es) h p =
+    let f = domainAt (w .state) d .active in
+    let o = objectOf (owned w f b 15) in (
+      owned-becomes w f b 15 h (p .rest .0) _ (register-run o (registration k l es))
+          (registered-fit o (b / 32) b k l es (p .range) (p .rest .1 .1 .0) (p .rest .1 .1 .1 .0) (owned-sound w f b 15 h (p .rest .0))),
+      tt,
+    )
+done-fit w d (Insert i l) h p =
+    let m = domainAt (w .state) d in
+    let ok = state-parts (w .state) h .domain d (p .domain) in
+    let page = ltb-true _ 128 (and-right (ltb i 8) _ (p .range)) in
+    (active-sound m _ (insert-sound (m .active) i (capability l) (leb-true i _ (p .rest .1 .1 .0)) page (domain-parts m ok .active)) ok, tt)
+done-fit w d (Remove i) h p =
+    let m = domainAt (w .state) d in
+    let ok = state-parts (w .state) h .domain d (p .domain) in
+    (active-sound m _ (remove-sound (m .active) i (leb-true _ i (and-left _ _ (p .unlocks))) (domain-parts m ok .active)) ok, tt)
+done-fit w d Get h p = tt
+done-fit w d (Lock i) h p =
+    let m = domainAt (w .state) d in
+    let ok = state-parts (w .state) h .domain d (p .domain) in (
+      active-sound m _
+          (lock-sound (m .active) i (λ ne. ltb-true i _ (unless (eqb i 255) _ (p .rest .0) (ne-eqb i 255 ne))) (domain-parts m ok .active)) ok,
+      tt,
+    )
+done-fit w d (PdxCall a ch) h p =
+    let m = domainAt (w .state) d in
+    let ok = state-parts (w .state) h .domain d (p .domain) in
+    let page = entered-list w (m .active) a h (p .rest .0) in
+    (save-sound m _ (entered-sound ch (m .active) _ page (domain-parts m ok .active)) ok, tt)
+done-fit w d PdxReturn h p = (restore-sound _ (state-parts (w .state) h .domain d (p .domain)), tt)

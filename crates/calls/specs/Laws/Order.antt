@@ -1,0 +1,176 @@
+-- The order of the checks: document 01, "In checking order". The numbers never fall, and the first check that fails answers.
+use Prim.Native.Nat.{ℕ, _≤_}
+use mathlib.Core.Path.{_≡_, refl, sym, ap, subst, _∙_}
+use mathlib.Core.Bool.{Bool, true, false, _&&_, true≢false}
+use mathlib.Core.List.{List, [], _∷_, _++_}
+use mathlib.Core.Logic.{_↔_, Iff·trans}
+use mathlib.Core.Option.{Option, none, some}
+use native.Mathlib.Omega.{arith}
+use lib.Dec.{leb}
+use borrow.Author.Tests.{leb-true}
+use Rattle.bounded.specs.Bools.{and-left, and-right}
+use Rattle.judge.specs.Judged.{judged}
+use Rattle.calls.specs.Answers.{refusalNumber, numberOf}
+use Rattle.calls.specs.View.{World, View, view, early, Check, check, firstFailing}
+use Rattle.calls.specs.Checks.{late, checks}
+use Rattle.calls.specs.Step.{stepBy, step, refused, concluded, storeCheck, soundCheck}
+use Rattle.calls.specs.declared.Call.{Call}
+use Rattle.calls.specs.declared.Call.the-variants.{Read, Write, Execute, Lookup, Create, Delete, AddPassword, DropPassword, Register, Insert, Remove, Get, Lock, PdxCall, PdxReturn}
+use Rattle.calls.specs.declared.Refusal.{Refusal}
+use Rattle.calls.specs.declared.Refusal.the-variants.{StoreLength, Unsound, NoDomain, OutOfRange, Locked, NotGranted, NotEntry, NoRun, HasPassword, Full, Missing}
+use Rattle.calls.specs.declared.Answer.{Answer}
+use Rattle.calls.specs.declared.Answer.the-variants.{Done, Refused}
+
+-- the checks of a call, from 2 to 12
+abbrev pub allChecks : World → ℕ → Call → List Check
+allChecks w d c = storeCheck w ∷ soundCheck w ∷ checks d c (view judged w d c)
+
+-- no number in the list is below `n`, or below one before it
+unfoldable pub ascending : ℕ → List Check → Bool
+ascending n [] = true
+ascending n (check r holds ∷ cs) = leb n (refusalNumber r) && ascending (refusalNumber r) cs
+
+-- THE CHECKS COME IN THE PAPER'S ORDER, whatever is read
+pub checks-ascend : (w : World) (d : ℕ) (c : Call) (v : View) → ascending 2 (storeCheck w ∷ soundCheck w ∷ checks d c v) ≡ true
+unfolding ascending checks early late
+checks-ascend w d (Read a) v = refl
+checks-ascend w d (Write a x) v = refl
+checks-ascend w d (Execute a) v = refl
+checks-ascend w d (Lookup a r) v = refl
+checks-ascend w d (Create p n k) v = refl
+checks-ascend w d (Delete b) v = refl
+checks-ascend w d (AddPassword b k m) v = refl
+checks-ascend w d (DropPassword b k) v = refl
+checks-ascend w d (Register b k l es) v = refl
+checks-ascend w d (Insert i l) v = refl
+checks-ascend w d (Remove i) v = refl
+checks-ascend w d Get v = refl
+checks-ascend w d (Lock i) v = refl
+checks-ascend w d (PdxCall a ch) v = refl
+checks-ascend w d PdxReturn v = refl
+
+-- each check of the list holds
+abbrev pub AllHold : List Check → Type 0
+AllHold [] = Unit {0}
+AllHold (check r holds ∷ cs) = (holds ≡ true) × AllHold cs
+
+-- a check fails that answers `why`, and each check before it holds
+pub record FailsFirst (cs : List Check) (why : Refusal) : Type 0 where
+  pub before : List Check
+  pub after : List Check
+  pub split : cs ≡ before ++ (check why false ∷ after)
+  pub hold : AllHold before
+
+-- each check of the list that fails has the number `n` or a higher one
+abbrev pub FailFrom : ℕ → List Check → Type 0
+FailFrom n [] = Unit {0}
+FailFrom n (check r holds ∷ cs) = (holds ≡ false → n ≤ refusalNumber r) × FailFrom n cs
+
+-- none fails exactly where each holds
+pub none-fails : (cs : List Check) → firstFailing cs ≡ none ↔ AllHold cs
+none-fails cs = (to cs, from cs)
+  where
+    to : (cs : List Check) → firstFailing cs ≡ none → AllHold cs
+    to [] h = tt
+    to (check r true ∷ cs) h = (refl, to cs h)
+    to (check r false ∷ cs) h = let z : _≡_ {A = ℕ} 0 1 = cc in absurd (omega arith)
+
+    from : (cs : List Check) → AllHold cs → firstFailing cs ≡ none
+    from [] h = refl
+    from (check r holds ∷ cs) h = rw (h .0) (from cs (h .1))
+
+-- the first failing check is one before which each holds
+pub first-fails : (cs : List Check) (why : Refusal) → firstFailing cs ≡ some why ↔ FailsFirst cs why
+first-fails cs why = (to cs, λ f. subst (λ (l : List Check). firstFailing l ≡ some why) (sym (f .split)) (from (f .before) (f .after) (f .hold)))
+  where
+    to : (cs : List Check) → firstFailing cs ≡ some why → FailsFirst cs why
+    to [] h = let z : _≡_ {A = ℕ} 0 1 = cc in absurd (omega arith)
+    to (check r true ∷ cs) h =
+        let f = to cs h in
+        record { before = check r true ∷ f .before; after = f .after; split = ap (λ l. check r true ∷ l) (f .split); hold = (refl, f .hold) }
+    to (check r false ∷ cs) h = let e : r ≡ why = cc in record { before = []; after = cs; split = rw e; hold = tt }
+
+    from : (before after : List Check) → AllHold before → firstFailing (before ++ (check why false ∷ after)) ≡ some why
+    from [] after h = refl
+    from (check r holds ∷ before) after h = rw (h .0) (from before after (h .1))
+
+ascend-from : (m n : ℕ) (cs : List Check) → m ≤ n → ascending n cs ≡ true → FailFrom m cs
+unfolding ascending
+ascend-from m n [] l h = tt
+ascend-from m n (check r holds ∷ cs) l h =
+    let k = leb-true n (refusalNumber r) (and-left _ _ h) in
+    (λ e. omega arith, ascend-from m (refusalNumber r) cs (omega arith) (and-right (leb n (refusalNumber r)) _ h))
+
+-- where the numbers never fall, the first failing check has the lowest number of those that fail
+pub first-lowest : (n : ℕ) (cs : List Check) (why : Refusal) → ascending n cs ≡ true → firstFailing cs ≡ some why → FailFrom (refusalNumber why) cs
+unfolding ascending
+first-lowest n [] why a h = tt
+first-lowest n (check r true ∷ cs) why a h =
+    (λ e. absurd (true≢false e), first-lowest (refusalNumber r) cs why (and-right (leb n (refusalNumber r)) _ a) h)
+first-lowest n (check r false ∷ cs) why a h =
+    let e : r ≡ why = cc in
+    let k : refusalNumber why ≤ refusalNumber r = rw e (omega arith) in
+    (λ f. k, ascend-from (refusalNumber why) (refusalNumber r) cs k (and-right (leb n (refusalNumber r)) _ a))
+
+-- a refusal has another number than a done call
+pub refusal-number : (r : Refusal) → 2 ≤ refusalNumber r
+refusal-number StoreLength = omega arith
+refusal-number Unsound = omega arith
+refusal-number NoDomain = omega arith
+refusal-number OutOfRange = omega arith
+refusal-number Locked = omega arith
+refusal-number NotGranted = omega arith
+refusal-number NotEntry = omega arith
+refusal-number NoRun = omega arith
+refusal-number HasPassword = omega arith
+refusal-number Full = omega arith
+refusal-number Missing = omega arith
+
+-- what is answered where no check fails, and where one does
+pub record Answering (answer : Option Refusal → Answer) : Type 0 where
+  pub value : ℕ
+  pub done : answer none ≡ Done value
+  pub refused : (r : Refusal) → answer (some r) ≡ Refused r
+
+module _ {answer : Option Refusal → Answer} (a : Answering answer) where
+  -- such an answer is a refusal exactly where a check fails, and by it
+  pub answers-refused : (o : Option Refusal) (why : Refusal) → answer o ≡ Refused why ↔ o ≡ some why
+  answers-refused o why = (to o, λ e. ap answer e ∙ a .refused why)
+    where
+      to : (o : Option Refusal) → answer o ≡ Refused why → o ≡ some why
+      to none h = let e = a .done in let z : _≡_ {A = ℕ} 0 1 = cc in absurd (omega arith)
+      to (some r) h = let e = a .refused r in cc
+
+  -- and the number 0 exactly where none fails
+  pub answers-done : (o : Option Refusal) → numberOf (answer o) ≡ 0 ↔ o ≡ none
+  answers-done o = (to o, λ e. ap (λ x. numberOf (answer x)) e ∙ ap numberOf (a .done))
+    where
+      to : (o : Option Refusal) → numberOf (answer o) ≡ 0 → o ≡ none
+      to none h = refl
+      to (some r) h = absurd (omega (arith, refusal-number r, rw (a .refused r) at h))
+
+module _ (w : World) (d : ℕ) (c : Call) where
+  answering : Answering (λ o. concluded o w d c (view judged w d c) .outcome .answer)
+  answering = record { value = _; done = refl; refused = λ r. refl }
+
+  step-refused : (why : Refusal) → step w d c .outcome .answer ≡ Refused why ↔ firstFailing (allChecks w d c) ≡ some why
+  unfolding stepBy
+  step-refused why = answers-refused answering (firstFailing (allChecks w d c)) why
+
+  -- THE FIRST FAILING CHECK ANSWERS: a call is refused exactly where a check of that number fails and each check before it holds
+  pub refused-first : (why : Refusal) → step w d c .outcome .answer ≡ Refused why ↔ FailsFirst (allChecks w d c) why
+  refused-first why = Iff·trans (step-refused why) (first-fails (allChecks w d c) why)
+
+  -- it is done exactly where each check holds
+  pub done-hold : numberOf (step w d c .outcome .answer) ≡ 0 ↔ AllHold (allChecks w d c)
+  unfolding stepBy
+  done-hold = Iff·trans (answers-done answering (firstFailing (allChecks w d c))) (none-fails (allChecks w d c))
+
+  -- THE LOWEST NUMBER ANSWERS: no check that fails has a lower one
+  pub lowest-answers : (why : Refusal) → step w d c .outcome .answer ≡ Refused why → FailFrom (refusalNumber why) (allChecks w d c)
+  lowest-answers why h = first-lowest 2 (allChecks w d c) why (checks-ascend w d c (view judged w d c)) (step-refused why .0 h)
+
+  -- a refused call gives the world back that came in
+  pub refused-is : (why : Refusal) → step w d c .outcome .answer ≡ Refused why → step w d c ≡ refused w why
+  unfolding stepBy
+  refused-is why h = ap (λ o. concluded o w d c (view judged w d c)) (step-refused why .0 h)

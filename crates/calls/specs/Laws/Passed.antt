@@ -1,0 +1,89 @@
+-- A call is refused and changes nothing, or it passes each check and is done.
+use Prim.Native.Nat.{ℕ, _<_}
+use mathlib.Core.Path.{_≡_, refl, ap, subst, _∙_}
+use mathlib.Core.Bool.{true}
+use mathlib.Core.List.{List, _∷_}
+use mathlib.Core.Logic.{_⊎_, inl, inr, ⊎-elim}
+use mathlib.Core.Option.{Option, none, some}
+use lib.ListN.{length}
+use borrow.Author.Tests.{eqb-true, ltb-true}
+use Rattle.state.specs.Places.{domainAt}
+use Rattle.state.specs.Sound.{sound}
+use Rattle.judge.specs.Judged.{judged}
+use Rattle.calls.specs.Answers.{valueOf, noFields}
+use Rattle.calls.specs.Arguments.{inRange}
+use Rattle.calls.specs.View.{World, View, Check, firstFailing, unlocked, early, view, seen}
+use Rattle.calls.specs.Checks.{late, checks}
+use Rattle.calls.specs.Step.{Result, refused, done, concluded, storeCheck, stepBy, checkedBy, step, checked}
+use Rattle.calls.specs.Laws.Order.{allChecks, AllHold, none-fails, refused-is}
+use Rattle.calls.specs.declared.Call.{Call}
+use Rattle.calls.specs.declared.Refusal.{Refusal}
+use Rattle.calls.specs.declared.Answer.the-variants.{Refused}
+
+-- the result of a refused call: the world that came in, the value 0, no fields
+pub record Unchanged (w : World) (r : Result) : Type 0 where
+  pub state : r .outcome .state ≡ w .state
+  pub words : r .words ≡ w .words
+  pub value : valueOf (r .outcome .answer) ≡ 0
+  pub fields : r .outcome .fields ≡ noFields
+
+-- DEMAND 1: A REFUSED CALL CHANGES NOTHING, and answers the value 0 and no fields
+pub refused-changes-nothing : (w : World) (d : ℕ) (c : Call) (why : Refusal) → step w d c .outcome .answer ≡ Refused why → Unchanged w (step w d c)
+refused-changes-nothing w d c why h = rw (refused-is w d c why h) (record { state = refl; words = refl; value = refl; fields = refl })
+
+-- every check from 4 to 12 holds, and check 2
+pub record Passes (w : World) (d : ℕ) (c : Call) : Type 0 where
+  pub long : length (w .words) ≡ 8192
+  pub domain : d < 4
+  pub range : inRange c ≡ true
+  pub unlocks : unlocked c (domainAt (w .state) d .active) ≡ true
+  pub rest : AllHold (late d c (seen judged w d c))
+
+-- what a call comes to
+abbrev pub Refuses : World → Result → Type 0
+Refuses w r = (why : Refusal) × (r ≡ refused w why)
+
+abbrev pub Does : World → ℕ → Call → Result → Type 0
+Does w d c r = Passes w d c × (r ≡ done w d c (seen judged w d c))
+
+-- a call whose checks hold passes, and its view is that of the search
+passed : (w : World) (d : ℕ) (c : Call) → AllHold (storeCheck w ∷ checks d c (view judged w d c))
+    → Passes w d c × (view judged w d c ≡ seen judged w d c)
+unfolding checks early view seen
+passed w d c h =
+    let (long, (domain, (range, (unlocks, rest)))) = h in
+    let e : view judged w d c ≡ seen judged w d c = rw (domain, range, unlocks) in (
+      record {
+        long = eqb-true _ 8192 long;
+        domain = ltb-true d 4 domain;
+        range = range;
+        unlocks = unlocks;
+        rest = subst (λ (v : View). AllHold (late d c v)) e rest;
+      },
+      e,
+    )
+
+module _ (w : World) (d : ℕ) (c : Call) where
+  -- of any list of checks one fails, or each holds
+  cases : (cs : List Check) (v : View)
+      → Refuses w (concluded (firstFailing cs) w d c v) ⊎ (AllHold cs × (concluded (firstFailing cs) w d c v ≡ done w d c v))
+  cases cs v = go (firstFailing cs) refl
+    where
+      go : (o : Option Refusal) → firstFailing cs ≡ o → Refuses w (concluded o w d c v) ⊎ (AllHold cs × (concluded o w d c v ≡ done w d c v))
+      go none e = inr (none-fails cs .0 e, refl)
+      go (some why) e = inl (why, refl)
+
+  -- a call is refused, or the state is sound, and it passes and is done
+  pub step-cases : Refuses w (step w d c) ⊎ ((sound (w .state) ≡ true) × Does w d c (step w d c))
+  unfolding stepBy
+  step-cases =
+      ⊎-elim inl
+      (λ t. let (h, e) = t in let p = passed w d c (h .0, h .1 .1) in inr (h .1 .0, (p .0, e ∙ ap (done w d c) (p .1))))
+      (cases (allChecks w d c) (view judged w d c))
+
+  -- after check 3 a call is refused, or passes and is done
+  pub checked-cases : Refuses w (checked w d c) ⊎ Does w d c (checked w d c)
+  unfolding checkedBy
+  checked-cases =
+      ⊎-elim inl (λ t. let (h, e) = t in let p = passed w d c h in inr (p .0, e ∙ ap (done w d c) (p .1)))
+      (cases (storeCheck w ∷ checks d c (view judged w d c)) (view judged w d c))

@@ -1,0 +1,60 @@
+-- Storage places do not matter: document 01, "Which storage place an object or password occupies within its estate or object is left open; nothing
+-- below depends on it."
+use Prim.Native.Nat.{ℕ, _<_}
+use mathlib.Core.Path.{_≡_, refl, ap}
+use mathlib.Core.Bool.{true}
+use mathlib.Core.List.{List}
+use lib.ListN.{length}
+use lib.Dec.{eqb}
+use Rattle.rights.specs.Modes.{grants}
+use Rattle.state.specs.Places.{slotAt}
+use Rattle.state.specs.Sound.{sound}
+use Rattle.state.specs.Same.{SameObject, SameObjects}
+use Rattle.state.specs.Laws.Same.{mode-same, covering-same}
+use Rattle.state.specs.declared.Capability.{Capability}
+use Rattle.state.specs.declared.Object.{Object}
+use Rattle.state.specs.declared.Table.{Table}
+use Rattle.state.specs.declared.Frame.{Frame}
+use Rattle.state.specs.declared.State.{State}
+use Rattle.judge.specs.Search.{live, listAt, pairMode, targeted}
+use Rattle.judge.specs.Judged.{judged}
+use Rattle.judge.specs.Laws.Lists.{SameClist, list-same}
+use Rattle.judge.specs.Laws.Local.{lists-local}
+use Rattle.judge.specs.declared.Target.{Target}
+use Rattle.judge.specs.declared.Target.the-variants.{Address, Base}
+
+-- A pair of words has the same mode for the same object.
+pub pair-same : {o o′ : Object} → SameObject o o′ → (word password : ℕ) → pairMode o word password ≡ pairMode o′ word password
+unfolding pairMode
+pair-same m word password = rw (mode-same m password, m .base)
+
+-- Two tables with the same objects have the same live capabilities.
+pub live-same : (t t′ : Table) → SameObjects t t′ → (c : Capability) → live t c ≡ live t′ c
+unfolding live
+live-same t t′ same c = ap (λ mode. grants mode 1) (same (c .page) .modes (c .password))
+
+-- And the same Clists.
+pub lists-same : (t t′ : Table) → SameObjects t t′ → (words : List ℕ) (f : Frame) (slot : ℕ) → listAt t words f slot ≡ listAt t′ words f slot
+lists-same t t′ same words f slot =
+    list-same t t′ words words f slot refl
+    (λ l. record { alive = live-same t t′ same (slotAt f slot); pages = λ a. same (slotAt f slot .page) .pages; content = λ a n b c. refl })
+
+-- The same object asked for, and the same Clists at the slots in use, give the same judgement.
+pub same-judged : (t t′ : Table) (words words′ : List ℕ) (f : Frame) (target : Target) (wanted : ℕ) → length words ≡ length words′
+    → SameObject (targeted t target) (targeted t′ target) → ((slot : ℕ) → slot < f .count → SameClist t t′ words words′ (slotAt f slot))
+    → judged t words f target wanted ≡ judged t′ words′ f target wanted
+same-judged t t′ words words′ f target wanted n m same =
+    lists-local t t′ words words′ f target wanted (ap (λ p. eqb p 0) (m .pages)) (λ k l. list-same t t′ words words′ f k n (same k))
+    (λ k i l b. pair-same m _ _)
+
+module _ (s s′ : State) (h : sound s ≡ true) (h′ : sound s′ ≡ true) (same : SameObjects (s .table) (s′ .table)) where
+  -- In two sound states with the same objects the same object is asked for.
+  pub target-same : (target : Target) → SameObject (targeted (s .table) target) (targeted (s′ .table) target)
+  target-same (Address a) = covering-same s s′ h h′ same _
+  target-same (Base b) = same b
+
+  -- STORAGE PLACES DO NOT MATTER: such states judge alike.
+  pub places-apart : (words : List ℕ) (f : Frame) (target : Target) (wanted : ℕ) → judged (s .table) words f target wanted ≡ judged (s′ .table) words f target wanted
+  places-apart words f target wanted =
+      lists-local (s .table) (s′ .table) words words f target wanted (ap (λ p. eqb p 0) (target-same target .pages))
+      (λ k l. lists-same (s .table) (s′ .table) same words f k) (λ k i l b. pair-same (target-same target) _ _)
