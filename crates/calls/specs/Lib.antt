@@ -7,4 +7,5 @@ pub mod Step
 pub mod Boot
 pub mod Runs
 pub mod Marked
+pub mod Nested
 pub mod Laws

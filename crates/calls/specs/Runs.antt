@@ -1,6 +1,6 @@
 -- Lists of calls, each on what the last one left, computed.
 use Prim.Native.Nat.{ℕ}
-use mathlib.Core.Path.{_≡_, ap, _∙_}
+use mathlib.Core.Path.{sym, subst}
 use mathlib.Core.List.{List, [], _∷_, map}
 use Rattle.bounded.specs.Search.{first}
 use Rattle.bounded.specs.Every.{below}
@@ -41,6 +41,12 @@ answersBy judging w (l ∷ ls) =
 abbrev pub expected : List Line → List (List ℕ)
 expected ls = map (λ (l : Line). l .answer) ls
 
+-- the world that lines leave
+unfoldable pub worldBy : Judging → World → List Line → World
+unfolding answersBy
+worldBy judging w [] = w
+worldBy judging w (l ∷ ls) = let r = stepBy judging w (l .domain) (l .call) in worldBy judging (worldOf r) ls
+
 -- an example is computed by the search, and holds of the judgement
-pub by-search : {A : Type 0} (of : Judging → A) (a : A) → of searched ≡ a → of judged ≡ a
-by-search of a e = ap of judged-is ∙ e
+pub by-search : (P : Judging → Type 0) → P searched → P judged
+by-search P p = subst P (sym judged-is) p
