@@ -48,7 +48,8 @@ pub fn write(s: State, store: &mut [u64], d: u64, address: u64, value: u64) -> O
     let t = s.table;
     let m = s.domains[d as usize];
     let f = m.active;
-    let Judgement::Granted(pair) = judge(t, store, f, Target::Address(address), Rights::WRITE) else {
+    let Judgement::Granted(pair) = judge(t, store, f, Target::Address(address), Rights::WRITE)
+    else {
         return refused(s, Refusal::NotGranted);
     };
     store[address as usize] = value;
@@ -70,7 +71,8 @@ pub fn execute(s: State, store: &[u64], d: u64, address: u64) -> Outcome
     let t = s.table;
     let m = s.domains[d as usize];
     let f = m.active;
-    let Judgement::Granted(pair) = judge(t, store, f, Target::Address(address), Rights::EXECUTE) else {
+    let Judgement::Granted(pair) = judge(t, store, f, Target::Address(address), Rights::EXECUTE)
+    else {
         return refused(s, Refusal::NotGranted);
     };
     done(s, address)

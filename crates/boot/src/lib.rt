@@ -17,7 +17,7 @@ use state::objects::new_object;
 ghost use mathlib.Core.Path.{_≡_};
 ghost use Prim.Native.Nat.{_<_};
 ghost use lib.ListN.{length};
-ghost use Rattle.calls.specs.Boot.{homeEstate, homeDomain, bootState, homePair, bootWords, boot};
+ghost use Rattle.calls.specs.Boot.{homeEstate, homeDomain, bootState, homePair, bootWords, homesOk, boot};
 ghost use Rattle.calls.specs.Step.{result};
 
 // The estate of domain d after a boot: its first page, with the home password.
@@ -46,13 +46,19 @@ fn home_domain(homes: [u64; 4], d: usize) -> Domain
     ensures { λ r. ⌜ r ≡ homeDomain homes d ⌝ }
 {
     let none = Frame {
-        slots: [Capability { page: 0, password: 0 }; 8],
+        slots: [Capability {
+            page: 0,
+            password: 0,
+        }; 8],
         count: 0,
         locked: 0,
         whole: false,
     };
     Domain {
-        active: only_list(Capability { page: 32 * d as u8, password: homes[d] }),
+        active: only_list(Capability {
+            page: 32 * d as u8,
+            password: homes[d],
+        }),
         saved: [none; 4],
         depth: 0,
     }
@@ -100,6 +106,13 @@ fn boot_words(store: &mut [u64], homes: [u64; 4])
     home_pair(store, homes, 3);
 }
 
+// Whether no home password is 0.
+fn homes_ok(homes: [u64; 4]) -> bool
+    ensures { λ r. ⌜ r ≡ homesOk homes ⌝ }
+{
+    (homes[0] != 0) & (homes[1] != 0) & (homes[2] != 0) & (homes[3] != 0)
+}
+
 // BT by a domain, with the home passwords of the four domains.
 pub fn boot(store: &mut [u64], d: u64, homes: [u64; 4]) -> Outcome
     ensures { λ r. ⌜ result r (now (store .exit)) ≡ boot (now (store .entry)) d homes ⌝ }
@@ -110,7 +123,7 @@ pub fn boot(store: &mut [u64], d: u64, homes: [u64; 4]) -> Outcome
     if 4 <= d {
         return refused(empty_state(), Refusal::NoDomain);
     }
-    if (homes[0] == 0) | (homes[1] == 0) | (homes[2] == 0) | (homes[3] == 0) {
+    if !homes_ok(homes) {
         return refused(empty_state(), Refusal::OutOfRange);
     }
     boot_words(store, homes);

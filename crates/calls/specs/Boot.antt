@@ -1,6 +1,6 @@
 -- BT: document 01, "BT home passwords of domains 0 to 3".
 use Prim.Native.Nat.{ℕ, _+_, _*_}
-use mathlib.Core.Bool.{not}
+use mathlib.Core.Bool.{Bool, not}
 use mathlib.Core.List.{List, [], _∷_}
 use mathlib.Core.Option.{Option, none, some}
 use lib.Dec.{ltb, eqb}
@@ -46,6 +46,10 @@ abbrev pub booted : List ℕ → List ℕ → Option Refusal → Result
 booted homes words none = result (doneWith (bootState homes) 0) (bootWords homes)
 booted homes words (some r) = refused (world emptyState words) r
 
+-- 5. "a zero password in BT"
+unfoldable pub homesOk : List ℕ → Bool
+homesOk homes = below 4 (λ k. not (eqb (homeOf homes k) 0))
+
 -- BT by a domain on the words of a store: 2, 4 and 5
 unfoldable pub boot : List ℕ → ℕ → List ℕ → Result
 boot words d homes =
@@ -53,5 +57,5 @@ boot words d homes =
     (firstFailing
     (storeCheck (world emptyState words)
     ∷ check NoDomain (ltb d 4)
-    ∷ check OutOfRange (below 4 (λ k. not (eqb (homeOf homes k) 0)))
+    ∷ check OutOfRange (homesOk homes)
     ∷ []))

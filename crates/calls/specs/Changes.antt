@@ -3,8 +3,8 @@ use Prim.Native.Nat.{ℕ, _+_, _*_, _/_}
 use mathlib.Core.Bool.{Bool, true, false, cond}
 use mathlib.Core.List.{List, [], _∷_, _++_}
 use mathlib.Core.Option.{Option, none, some}
-use lib.Dec.{ltb, eqb}
-use lib.ListN.{set, take, drop, replicate}
+use lib.Dec.{leb, ltb, eqb}
+use lib.ListN.{length, set, take, drop, replicate}
 use Rattle.bounded.specs.Fill.{tabulate}
 use Rattle.state.specs.Places.{freeObject, slotAt}
 use Rattle.state.specs.Lookup.{freePlace, placeBased}
@@ -139,6 +139,10 @@ changes d PdxReturn v = domain d (restoreDomain (v .domain)) ∷ []
 -- n words from a on are 0
 unfoldable pub zeroed : ℕ → ℕ → List ℕ → List ℕ
 zeroed a n words = take a words ++ (replicate n 0 ++ drop (a + n) words)
+
+-- the same where they lie in the store
+abbrev pub zeroedWithin : ℕ → ℕ → List ℕ → List ℕ
+zeroedWithin a n words = cond (leb (a + n) (length words)) (zeroed a n words) words
 
 abbrev pub applyOne : Change → World → World
 applyOne (word a x) w = record { state = w .state; words = set (w .words) a x }

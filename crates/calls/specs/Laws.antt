@@ -7,3 +7,4 @@ pub mod Sound
 pub mod Booted
 pub mod Agree
 pub mod Places
+pub mod Zeroed

@@ -54,10 +54,10 @@ nested =
     ∷ record { before = inside; call = by 0 (PdxCall 2113 0) (8 ∷ 0 ∷ []); after = back ++ outside }
     -- 11: four domains are saved
     ∷ record {
-        before = inside ++ deeper ++ deeper ++ deeper;
-        call = by 0 (PdxCall 2112 0) (11 ∷ 0 ∷ []);
-        after = back ++ back ++ back ++ back ++ outside
-      }
+      before = inside ++ deeper ++ deeper ++ deeper;
+      call = by 0 (PdxCall 2112 0) (11 ∷ 0 ∷ []);
+      after = back ++ back ++ back ++ back ++ outside;
+    }
     ∷ []
 
 abbrev pub start : World

@@ -16,7 +16,7 @@ use Rattle.calls.specs.View.{World, Judging, unlocked, early, view}
 use Rattle.calls.specs.Checks.{runFree, isEntry, late, checks}
 use Rattle.calls.specs.Changes.{frameFields, registration, changes, zeroed}
 use Rattle.calls.specs.Step.{Result, stepBy, worldOf}
-use Rattle.calls.specs.Boot.{homeEstate, homeDomain, bootState, homePair, bootWords, boot}
+use Rattle.calls.specs.Boot.{homeEstate, homeDomain, bootState, homePair, bootWords, homesOk, boot}
 use Rattle.calls.specs.declared.Call.{Call}
 
 -- a line: a call by a domain, and the number and values that it must answer
@@ -33,7 +33,7 @@ answerOf r = numberOf (r .outcome .answer) ∷ valuesOf (r .outcome)
 
 -- the answers to lines, each on what the last one left; unfolding it unfolds all that it computes with
 unfoldable pub answersBy : Judging → World → List Line → List (List ℕ)
-unfolding first below covers passwordOk absent distinct entryOk registrationOk liesIn objectBounds objectOk apart apartAt apartFrom estateOk slotOk frameBounds frameOk savedOk domainOk soundAt sound covering based objectCovering objectBased placeBased freePlace placeOf ordinaryMode modeOf hasPassword insertSlot removeSlot lockSlot mergeList onlyList saveDomain restoreDomain newObject addPassword dropPassword live clist listAt pairMode verdictOf pairVerdict listVerdict slotVerdict frameVerdict searched inRange unlocked early view runFree isEntry late checks frameFields registration changes zeroed stepBy homeEstate homeDomain bootState homePair bootWords boot
+unfolding first below covers passwordOk absent distinct entryOk registrationOk liesIn objectBounds objectOk apart apartAt apartFrom estateOk slotOk frameBounds frameOk savedOk domainOk soundAt sound covering based objectCovering objectBased placeBased freePlace placeOf ordinaryMode modeOf hasPassword insertSlot removeSlot lockSlot mergeList onlyList saveDomain restoreDomain newObject addPassword dropPassword live clist listAt pairMode verdictOf pairVerdict listVerdict slotVerdict frameVerdict searched inRange unlocked early view runFree isEntry late checks frameFields registration changes zeroed stepBy homeEstate homeDomain bootState homePair bootWords homesOk boot
 answersBy judging w [] = []
 answersBy judging w (l ∷ ls) =
     let r = stepBy judging w (l .domain) (l .call) in answerOf r ∷ answersBy judging (worldOf r) ls

@@ -2,7 +2,10 @@
 use state::State;
 use state::soundness::sound;
 ghost use mathlib.Core.Path.{_≡_};
+ghost use Prim.Native.Nat.{_+_, _≤_};
+ghost use lib.ListN.{length};
 ghost use Rattle.calls.specs.Answers.{noFields};
+ghost use Rattle.calls.specs.Changes.{zeroed, zeroedWithin};
 ghost use Rattle.calls.specs.Step.{world, refusedWith, doneWith, admitted};
 
 // A call with its arguments, as they come.
@@ -147,4 +150,30 @@ pub fn admits(s: State, store: &[u64]) -> bool
     ensures { λ r. ⌜ r ≡ admitted (world s (now (store .entry))) ⌝ }
 {
     (store.len() != 8192) | sound(s)
+}
+
+// n words from `start` on become 0.
+fn zero_run(store: &mut [u64], start: usize, n: usize)
+    requires { ⌜ start + n ≤ length (now store) ⌝ }
+    ensures { λ _. ⌜ now (store .exit) ≡ zeroed start n (now (store .entry)) ⌝ }
+{
+    let mut i = 0;
+    while i < n {
+        store[start + i] = 0;
+        i += 1;
+    }
+}
+
+// The same where they lie in the store; else nothing changes.
+pub fn zero_words(store: &mut [u64], start: usize, n: usize)
+    ensures { λ _. ⌜ now (store .exit) ≡ zeroedWithin start n (now (store .entry)) ⌝ }
+{
+    let length = store.len();
+    if length < start {
+        return;
+    }
+    if length - start < n {
+        return;
+    }
+    zero_run(store, start, n);
 }

@@ -21,7 +21,7 @@ use Rattle.state.specs.Laws.Parts.{apart-sym, parts-state}
 use Rattle.calls.specs.Answers.{numberOf}
 use Rattle.calls.specs.View.{Check, check, firstFailing}
 use Rattle.calls.specs.Step.{world, result, doneWith, storeCheck}
-use Rattle.calls.specs.Boot.{homeOf, homeEstate, homeDomain, bootState, homePair, bootWords, booted, boot}
+use Rattle.calls.specs.Boot.{homeOf, homeEstate, homeDomain, bootState, homePair, bootWords, booted, homesOk, boot}
 use Rattle.calls.specs.Laws.Order.{ascending, AllHold, FailsFirst, none-fails, first-fails, Answering, answers-refused, answers-done}
 use Rattle.calls.specs.Laws.Passed.{Unchanged}
 use Rattle.calls.specs.declared.Refusal.{Refusal}
@@ -68,7 +68,7 @@ abbrev pub bootChecks : List ℕ → ℕ → List ℕ → List Check
 bootChecks words d homes =
     storeCheck (world emptyState words)
     ∷ check NoDomain (ltb d 4)
-    ∷ check OutOfRange (below 4 (λ k. not (eqb (homeOf homes k) 0)))
+    ∷ check OutOfRange (homesOk homes)
     ∷ []
 
 module _ (words : List ℕ) (d : ℕ) (homes : List ℕ) where
