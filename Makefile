@@ -1,4 +1,6 @@
 # make test: proves every crate from nothing, tries the must-fail edits, and runs each program.
 .PHONY: test
 test:
-	rt ci
+	@# Only the crate judge and the module that computes examples may open the judgement.
+	@! grep -rl 'Judged\.Inside' crates --include=*.antt | grep -v -e '^crates/judge/' -e '^crates/calls/specs/Runs\.antt$$'
+	@rt ci

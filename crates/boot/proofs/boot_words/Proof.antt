@@ -1,6 +1,5 @@
-use mathlib.Core.Path.{_∙_, ap}
 use borrow.Author.Needs.{needs}
-use Rattle.calls.specs.Boot.{homePair, bootWords}
+use Rattle.calls.specs.Boot.{bootWords}
 use Rattle.calls.specs.Laws.Zeroed.{zeroed-whole}
 use Rattle.boot.proofs.boot_words.Statement.{statement}
 use Rattle.boot.proofs.boot_words.Tie as tie

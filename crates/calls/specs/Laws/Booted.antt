@@ -1,12 +1,12 @@
 -- What BT leaves: a sound state, and a store of 8,192 words.
 use Prim.Native.Nat.{ℕ, _*_, _<_}
 use mathlib.Core.Path.{_≡_, refl, ap}
-use mathlib.Core.Bool.{true, not}
+use mathlib.Core.Bool.{true}
 use mathlib.Core.List.{List, [], _∷_}
 use mathlib.Core.Logic.{_↔_, Iff·trans}
 use mathlib.Core.Option.{Option, none, some}
 use native.Mathlib.Omega.{arith}
-use lib.Dec.{ltb, eqb}
+use lib.Dec.{ltb}
 use lib.ListN.{length, length-set, length-replicate, getD-replicate}
 use Rattle.bounded.specs.Every.{below}
 use Rattle.bounded.specs.Fill.{tabulate-at}

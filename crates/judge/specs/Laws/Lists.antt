@@ -13,8 +13,8 @@ use borrow.Author.Tests.{leb-true, ltb-true, ltb-false, lt-ltb, le-ltb, eqb-true
 use Rattle.bounded.specs.Bools.{flag, and-right, and-no}
 use Rattle.rights.specs.Modes.{grants, holdsNone}
 use Rattle.state.specs.Places.{slotAt, estateOf}
-use Rattle.state.specs.Lookup.{hasBase, based, objectBased, ordinaryMode}
-use Rattle.state.specs.Laws.Lookup.{base-same}
+use Rattle.state.specs.Lookup.{hasBase, based, objectBased, ordinaryMode, hasPassword}
+use Rattle.state.specs.Laws.Lookup.{base-same, mode-ordinary, parts-has}
 use Rattle.state.specs.Laws.Found.{found-or-free, free-mode}
 use Rattle.state.specs.declared.Capability.{Capability}
 use Rattle.state.specs.declared.Object.{Object}
@@ -164,3 +164,13 @@ list-same t t′ words words′ f k n h = go (flag (ltb k (f .count))) (flag (li
         list-live t words f k l a
         ∙ clist-same words words′ (named t (slotAt f k)) (named t′ (slotAt f k)) (b ∙ sym (live-base t′ (slotAt f k) a′)) (m .pages a) n (rw b (m .content a))
         ∙ sym (list-live t′ words′ f k l a′)
+
+-- a live capability shows a password of the object that it names
+pub live-holds : (t : Table) (c : Capability) → live t c ≡ true → hasPassword (named t c) (c .password) ≡ true
+unfolding live
+live-holds t c a = let r = mode-ordinary (named t c) (c .password) (grants-some _ 1 refl a) in parts-has _ _ (r .0) (inr (r .1))
+
+-- liveness depends only on the object that the capability names
+pub live-local : (t t′ : Table) (c : Capability) → named t c ≡ named t′ c → live t c ≡ live t′ c
+unfolding live
+live-local t t′ c e = rw e

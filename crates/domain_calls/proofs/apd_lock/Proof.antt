@@ -1,0 +1,13 @@
+use mathlib.Core.Path.{_∙_, sym}
+use borrow.Author.Needs.{needs}
+use Rattle.calls.specs.Laws.Checked.{step-checked, step-unsound}
+use Rattle.domain_calls.proofs.apd_lock.Statement.{statement}
+use Rattle.domain_calls.proofs.apd_lock.Tie as tie
+
+pub apd-lock-spec : {M : Type 1} → statement M
+apd-lock-spec =
+    tie.close
+    (tie.spec (λ c κs. search needs) (λ c κs. search needs)
+    (λ c. c .apd-lock .ensures ∙ sym (step-checked _ _ _ (sym (c .before .before .admits .ensures) ∙ c .before .if1 .taken)))
+    (λ c κs. search needs)
+    (λ c. rw (step-unsound _ _ _ (sym (c .before .before .admits .ensures) ∙ c .before .if1 .left), c .refused .ensures)))

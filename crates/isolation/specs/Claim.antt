@@ -1,0 +1,54 @@
+-- Demand 3: one claim about two whole runs.
+use Prim.Native.Nat.{ℕ, _<_}
+use mathlib.Core.Path.{_≡_}
+use mathlib.Core.Bool.{true}
+use lib.ListN.{getD}
+use Rattle.state.specs.Places.{slotAt, savedAt, domainAt}
+use Rattle.state.specs.Lookup.{objectBased}
+use Rattle.state.specs.Same.{SameObject}
+use Rattle.state.specs.declared.Frame.{Frame}
+use Rattle.state.specs.declared.Domain.{Domain}
+use Rattle.calls.specs.Answers.{numberOf}
+use Rattle.calls.specs.View.{World}
+use Rattle.calls.specs.Boot.{homeOf}
+use Rattle.isolation.specs.Group.{Group, member, insidePage, insideAddress}
+use Rattle.isolation.specs.Runs.{Run, bootOf, startOf, final, answers, membersCalls}
+use Rattle.isolation.specs.Premises.{Premises}
+
+-- "each member's slots in order, locked count, whole lock"
+pub record SameFrame (f f′ : Frame) : Type 0 where
+  pub count : f .count ≡ f′ .count
+  pub slot : (k : ℕ) → k < f .count → slotAt f k ≡ slotAt f′ k
+  pub locked : f .locked ≡ f′ .locked
+  pub whole : f .whole ≡ f′ .whole
+
+-- "and saved domains in order"
+pub record SameDomain (m m′ : Domain) : Type 0 where
+  pub active : SameFrame (m .active) (m′ .active)
+  pub depth : m .depth ≡ m′ .depth
+  pub saved : (k : ℕ) → k < m .depth → SameFrame (savedAt m k) (savedAt m′ k)
+
+-- "in the last states and stores, each word of the members' estates, in an object or not; the inside objects, each by base, page
+-- count, ordinary passwords with modes, registration ..; and each member's slots .."
+pub record SameInside (G : Group) (w w′ : World) : Type 0 where
+  pub words : (a : ℕ) → insideAddress G a ≡ true → getD (w .words) a 0 ≡ getD (w′ .words) a 0
+  pub objects : (base : ℕ) → insidePage G base ≡ true → SameObject (objectBased (w .state .table) base) (objectBased (w′ .state .table) base)
+  pub domains : (d : ℕ) → member G d ≡ true → SameDomain (domainAt (w .state) d) (domainAt (w′ .state) d)
+
+-- what is asked of two runs: both boots answered 0, the same members' home passwords, the same members' calls, and the premises in both
+pub record Comparable (G : Group) (r r′ : Run) : Type 0 where
+  pub booted : numberOf (bootOf r .outcome .answer) ≡ 0
+  pub booted′ : numberOf (bootOf r′ .outcome .answer) ≡ 0
+  pub homes : (d : ℕ) → member G d ≡ true → homeOf (r .homes) d ≡ homeOf (r′ .homes) d
+  pub calls : membersCalls G r ≡ membersCalls G r′
+  pub premises : Premises G r
+  pub premises′ : Premises G r′
+
+-- what then holds: "members get the same answers and end with the same words, objects, slots, locks and saved domains"
+pub record Isolated (G : Group) (r r′ : Run) : Type 0 where
+  pub same-answers : answers G (startOf r) (r .events) ≡ answers G (startOf r′) (r′ .events)
+  pub same-inside : SameInside G (final (startOf r) (r .events)) (final (startOf r′) (r′ .events))
+
+-- DEMAND 3: for any group and any two runs
+abbrev pub Isolation : Type 0
+Isolation = (G : Group) (r r′ : Run) → Comparable G r r′ → Isolated G r r′

@@ -1,0 +1,15 @@
+pub mod Group
+pub mod Runs
+pub mod Premises
+pub mod Claim
+pub mod Members
+pub mod Mask
+pub mod Part
+pub mod Seen
+pub mod Induction
+pub mod Blanked
+pub mod Steps
+pub mod Start
+pub mod Theorem
+pub mod Slots
+pub mod Examples

@@ -1,0 +1,1 @@
+// No code: demand 3, as definitions in specs/ with their proof.
