@@ -1,5 +1,5 @@
-use Rattle.calls.specs.Arguments.{inRange}
 use borrow.Author.Needs.{needs}
+use Rattle.calls.specs.Arguments.{inRange}
 use Rattle.object_calls.proofs.checked.create_in_range.Statement.{statement}
 use Rattle.object_calls.proofs.checked.create_in_range.Tie as tie
 

@@ -5,4 +5,4 @@ use Rattle.object_calls.proofs.checked.entry_inside.Tie as tie
 pub entry-inside-spec : {M : Type 1} → statement M
 entry-inside-spec =
     tie.close
-    (tie.spec (λ c κs. search needs) (λ c. cc))
+    (tie.spec (λ c κs. search needs) (λ c. rw (c .covers .ensures)))

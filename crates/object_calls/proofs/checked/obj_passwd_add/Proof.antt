@@ -45,9 +45,13 @@ obj-passwd-add-spec =
       le-ltb _ _ (c .before .if5 .taken),
     ))
     (c .refused6 .ensures))
-    (λ c. let a = c .before .before .before .before .before .before .before .before .before .before .before .before in omega (arith, add-range _ _ _ (sym (a .before .add-in-range .ensures) ∙ not-false _ (a .if3 .left)) .1))
+    (λ c.
+    let a = c .before .before .before .before .before .before .before .before .before .before .before .before in
+    omega (arith, add-range _ _ _ (sym (a .before .add-in-range .ensures) ∙ not-false _ (a .if3 .left)) .1))
     (λ c κs. search needs)
-    (λ c κs. let a = c .before .before .before .before .before .before .before .before .before .before .before .before .before in add-range _ _ _ (sym (a .before .add-in-range .ensures) ∙ not-false _ (a .if3 .left)) .0)
+    (λ c κs.
+    let a = c .before .before .before .before .before .before .before .before .before .before .before .before .before in
+    add-range _ _ _ (sym (a .before .add-in-range .ensures) ∙ not-false _ (a .if3 .left)) .0)
     (λ c κs. search needs)
     (λ c.
     let k = c .before .before .before .before in let h = k .before .before in let o = h .before in let g = o .before .before in

@@ -19,7 +19,8 @@ register-pdx-spec =
     let j = c .before .before .before in
     let p = j .before .before .before .before .before .pre in
     by-late _ _ _ _ (p .0) (p .1) (p .2) refl (rw (sym (j .judge .ensures) ∙ c .before .enum-told .given .1)) (c .refused .ensures))
-    (λ c κs. register-range _ _ _ _ (c .before .before .before .before .before .before .before .before .pre .2) .page) (λ c κs. search needs) (λ c κs. search needs)
+    (λ c κs. register-range _ _ _ _ (c .before .before .before .before .before .before .before .before .pre .2) .page)
+    (λ c κs. search needs) (λ c κs. search needs)
     (λ c.
     let l = c .before .before in let k = l .before in
     let g = k .before .before in let j = g .before .before in let p = j .before .before .before .before .before .pre in
@@ -67,8 +68,15 @@ register-pdx-spec =
       ne-eqb _ _ (c .before .if4 .taken),
     ))
     (c .refused5 .ensures))
-    (λ c κs. let r = register-range _ _ _ _ (c .before .before .before .before .before .before .before .before .before .before .before .before .before .before .before .before .before .before .before .pre .2) in (r .page, r .count, r .entries))
-    (λ c κs. search needs) (λ c κs. register-range _ _ _ _ (c .before .before .before .before .before .before .before .before .before .before .before .before .before .before .before .before .before .before .before .before .before .pre .2) .base) (λ c κs. search needs)
+    (λ c κs.
+    let j = c .before .before .before .before .before .before .before .before .before .before .before .before .before .before in
+    let r = register-range _ _ _ _ (j .before .before .before .before .before .pre .2) in
+    (r .page, r .count, r .entries))
+    (λ c κs. search needs)
+    (λ c κs.
+    let j = c .before .before .before .before .before .before .before .before .before .before .before .before .before .before .before .before in
+    register-range _ _ _ _ (j .before .before .before .before .before .pre .2) .base)
+    (λ c κs. search needs)
     (λ c.
     let f = c .before .before .before .before in
     let h = f .before .before .before .before in let i = h .before .before in let o = i .before in let l = o .before .before in let k = l .before in
