@@ -8,4 +8,5 @@ pub mod Boot
 pub mod Runs
 pub mod Marked
 pub mod Nested
+pub mod Locks
 pub mod Laws

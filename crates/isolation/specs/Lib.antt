@@ -12,4 +12,5 @@ pub mod Steps
 pub mod Start
 pub mod Theorem
 pub mod Slots
+pub mod Consequences
 pub mod Examples

@@ -23,16 +23,18 @@ apd-delete-spec =
     (λ c.
     let u = c .before .before in
     let a = u .before .before .before in
-    by-lock _ _ _ _ (a .before .before .if1 .left) (a .before .if2 .left) (lt-ltb _ _ (a .if3 .left)) (fails (u .unlocked-at .ensures) (c .before .if4 .taken)) (c .refused4 .ensures))
+    by-lock _ _ _ _ (a .before .before .if1 .left) (a .before .if2 .left) (lt-ltb _ _ (a .if3 .left))
+    (fails (u .unlocked-at .ensures) (c .before .if4 .taken)) (c .refused4 .ensures))
     (λ c. search needs) (λ c κs. search needs)
     (λ c.
     let u = c .before .before .before .before in
     let a = u .before .before .before in
-    by-late _ _ _ _ (a .before .before .if1 .left) (a .before .if2 .left) (lt-ltb _ _ (a .if3 .left)) (holds (u .unlocked-at .ensures) (c .before .before .before .if4 .left))
-    (rw (le-ltb _ _ (c .before .if5 .taken))) (c .refused5 .ensures))
+    by-late _ _ _ _ (a .before .before .if1 .left) (a .before .if2 .left) (lt-ltb _ _ (a .if3 .left))
+    (holds (u .unlocked-at .ensures) (c .before .before .before .if4 .left)) (rw (le-ltb _ _ (c .before .if5 .taken))) (c .refused5 .ensures))
     (λ c. search needs) (λ c κs. search needs) (λ c κs. search needs) (λ c κs. search needs)
     (λ c.
     let u = c .before .before .before .before .before .before in
     let a = u .before .before .before in
-    by-done _ _ _ _ (a .before .before .if1 .left) (a .before .if2 .left) (lt-ltb _ _ (a .if3 .left)) (holds (u .unlocked-at .ensures) (c .before .before .before .before .before .if4 .left))
-    (rw (lt-ltb _ _ (c .before .before .before .if5 .left))) (rw (c .done .ensures, c .before .with-active .ensures, c .before .before .remove-slot .ensures))))
+    by-done _ _ _ _ (a .before .before .if1 .left) (a .before .if2 .left) (lt-ltb _ _ (a .if3 .left))
+    (holds (u .unlocked-at .ensures) (c .before .before .before .before .before .if4 .left)) (rw (lt-ltb _ _ (c .before .before .before .if5 .left)))
+    (rw (c .done .ensures, c .before .with-active .ensures, c .before .before .remove-slot .ensures))))

@@ -17,4 +17,6 @@ apd-get-spec =
     (λ c κs. search needs)
     (λ c. by-domain _ _ _ _ (c .before .before .if1 .left) (c .before .if2 .taken) (c .refused2 .ensures))
     (λ c. search needs) (λ c. search needs) (λ c κs. search needs)
-    (λ c. by-done _ _ _ _ (c .before .before .before .before .if1 .left) (c .before .before .before .if2 .left) refl refl refl (rw (c .frame-fields .ensures))))
+    (λ c.
+    let a = c .before .before .before in
+    by-done _ _ _ _ (a .before .if1 .left) (a .if2 .left) refl refl refl (rw (c .frame-fields .ensures))))

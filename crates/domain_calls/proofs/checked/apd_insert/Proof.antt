@@ -22,7 +22,8 @@ apd-insert-spec =
     (λ c κs. search needs)
     (λ c.
     let a = c .before .before .before in
-    by-range _ _ _ _ (a .before .before .if1 .left) (a .before .if2 .left) (rw (lt-ltb _ _ (a .if3 .left), le-ltb _ _ (c .before .if4 .taken))) (c .refused4 .ensures))
+    by-range _ _ _ _ (a .before .before .if1 .left) (a .before .if2 .left) (rw (lt-ltb _ _ (a .if3 .left), le-ltb _ _ (c .before .if4 .taken)))
+    (c .refused4 .ensures))
     (λ c. search needs) (λ c. search needs) (λ c κs. search needs) (λ c κs. search needs)
     (λ c.
     let u = c .before .before in
@@ -49,20 +50,22 @@ apd-insert-spec =
     (rw (holds (l .live .ensures) (c .before .before .before .if6 .left), le-ltb _ _ (c .before .if7 .taken))) (c .refused7 .ensures))
     (λ c. search needs) (λ c κs. search needs)
     (λ c.
-    let l = c .before .before .before .before .before .before in
+    let g = c .before .before .before in
+    let l = g .before .before .before in
     let u = l .before .before .before .before in
     let e = u .before .before .before in
     let a = e .before .before in
     by-late _ _ _ _ (a .before .before .if1 .left) (a .before .if2 .left) (rw (lt-ltb _ _ (a .if3 .left), lt-ltb _ _ (e .if4 .left)))
     (holds (u .unlocked-at .ensures) (l .before .before .before .if5 .left))
-    (rw (holds (l .live .ensures) (c .before .before .before .before .before .if6 .left), lt-ltb _ _ (c .before .before .before .if7 .left), lt-leb _ _ (c .before .if8 .taken))) (c .refused8 .ensures))
+    (rw (holds (l .live .ensures) (g .before .before .if6 .left), lt-ltb _ _ (g .if7 .left), lt-leb _ _ (c .before .if8 .taken))) (c .refused8 .ensures))
     (λ c. search needs) (λ c κs. search needs) (λ c κs. search needs) (λ c κs. search needs)
     (λ c.
-    let l = c .before .before .before .before .before .before .before .before in
+    let g = c .before .before .before .before .before in
+    let l = g .before .before .before in
     let u = l .before .before .before .before in
     let e = u .before .before .before in
     let a = e .before .before in
     by-done _ _ _ _ (a .before .before .if1 .left) (a .before .if2 .left) (rw (lt-ltb _ _ (a .if3 .left), lt-ltb _ _ (e .if4 .left)))
     (holds (u .unlocked-at .ensures) (l .before .before .before .if5 .left))
-    (rw (holds (l .live .ensures) (c .before .before .before .before .before .before .before .if6 .left), lt-ltb _ _ (c .before .before .before .before .before .if7 .left), le-leb _ _ (c .before .before .before .if8 .left)))
+    (rw (holds (l .live .ensures) (g .before .before .if6 .left), lt-ltb _ _ (g .if7 .left), le-leb _ _ (c .before .before .before .if8 .left)))
     (rw (c .done .ensures, c .before .with-active .ensures, c .before .before .insert-slot .ensures))))

@@ -20,12 +20,14 @@ apd-lock-spec =
     (λ c. search needs) (λ c. search needs) (λ c κs. search needs) (λ c κs. search needs) (λ c κs. search needs)
     (λ c.
     let h = c .before .before .before .if3 .taken in
-    by-done _ _ _ _ (c .before .before .before .before .before .before .before .if1 .left) (c .before .before .before .before .before .before .if2 .left) (rw h) refl (rw h)
+    let a = c .before .before .before .before .before .before in
+    by-done _ _ _ _ (a .before .if1 .left) (a .if2 .left) (rw h) refl (rw h)
     (rw (c .done .ensures, c .before .with-active .ensures, c .before .before .lock-slot .ensures, h)))
     (λ c κs. search needs)
     (λ c.
     let a = c .before .before in
-    by-range _ _ _ _ (a .before .before .before .before .if1 .left) (a .before .before .before .if2 .left) (rw (le-ltb _ _ (c .before .if4 .taken), ne-eqb _ _ (a .if3 .left))) (c .refused3 .ensures))
+    by-range _ _ _ _ (a .before .before .before .before .if1 .left) (a .before .before .before .if2 .left)
+    (rw (le-ltb _ _ (c .before .if4 .taken), ne-eqb _ _ (a .if3 .left))) (c .refused3 .ensures))
     (λ c. search needs) (λ c κs. search needs)
     (λ c.
     let a = c .before .before .before in

@@ -12,5 +12,5 @@ frame-fields-spec =
     (λ c κs. search needs) (λ c κs. search needs) (λ c κs. search needs)
     (λ c.
     let h = c .before .before .before .before in
-    rw (h .before .before .before .before .flag .ensures, h .before .before .before .page-at .ensures, h .before .before .page-at2 .ensures, h .before .page-at3 .ensures, h .page-at4 .ensures)
-    (rw (c .before .before .before .page-at5 .ensures, c .before .before .page-at6 .ensures, c .before .page-at7 .ensures, c .page-at8 .ensures))))
+    rw (h .before .before .before .before .flag .ensures, h .before .before .before .page-at .ensures, h .before .before .page-at2 .ensures, h .before .page-at3 .ensures)
+    (rw (h .page-at4 .ensures, c .before .before .before .page-at5 .ensures, c .before .before .page-at6 .ensures, c .before .page-at7 .ensures, c .page-at8 .ensures))))

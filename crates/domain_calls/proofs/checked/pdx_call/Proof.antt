@@ -24,7 +24,8 @@ pdx-call-spec =
     (λ c κs. search needs)
     (λ c.
     let a = c .before .before in
-    by-range _ _ _ _ (a .before .before .if1 .left) (a .before .if2 .left) (rw (lt-ltb _ _ (a .if3 .left), le-ltb _ _ (c .before .if4 .taken))) (c .refused4 .ensures))
+    by-range _ _ _ _ (a .before .before .if1 .left) (a .before .if2 .left) (rw (lt-ltb _ _ (a .if3 .left), le-ltb _ _ (c .before .if4 .taken)))
+    (c .refused4 .ensures))
     (λ c. search needs) (λ c. search needs) (λ c κs. search needs)
     (λ c.
     let a = c .before .before .before .before in
@@ -42,12 +43,8 @@ pdx-call-spec =
     let j = o .before .before .before .before in
     let a = j .before .before .before .before .before in
     by-late _ _ _ _ (a .before .before .before .if1 .left) (a .before .before .if2 .left) (rw (lt-ltb _ _ (a .before .if3 .left), lt-ltb _ _ (a .if4 .left)))
-    (ap not (j .before .before .if5 .left)) (rw (
-      ← j .judge .ensures,
-      o .before .before .pair .given .1,
-      ← o .object-covering .ensures,
-      fails (c .before .before .is-entry .ensures) (c .before .if6 .taken),
-    )) (c .refused7 .ensures))
+    (ap not (j .before .before .if5 .left)) (rw (← j .judge .ensures, o .before .before .pair .given .1, ← o .object-covering .ensures)
+    (rw (fails (c .before .before .is-entry .ensures) (c .before .if6 .taken)))) (c .refused7 .ensures))
     (λ c κs. search needs) (λ c κs. search needs)
     (λ c.
     let i = c .before .before .before .before in
@@ -55,13 +52,8 @@ pdx-call-spec =
     let j = o .before .before .before .before in
     let a = j .before .before .before .before .before in
     by-late _ _ _ _ (a .before .before .before .if1 .left) (a .before .before .if2 .left) (rw (lt-ltb _ _ (a .before .if3 .left), lt-ltb _ _ (a .if4 .left)))
-    (ap not (j .before .before .if5 .left)) (rw (
-      ← j .judge .ensures,
-      o .before .before .pair .given .1,
-      ← o .object-covering .ensures,
-      holds (i .is-entry .ensures) (c .before .before .before .if6 .left),
-      fails (c .before .before .has-room .ensures) (c .before .if7 .taken),
-    )) (c .refused8 .ensures))
+    (ap not (j .before .before .if5 .left)) (rw (← j .judge .ensures, o .before .before .pair .given .1, ← o .object-covering .ensures)
+    (rw (holds (i .is-entry .ensures) (c .before .before .before .if6 .left), fails (c .before .before .has-room .ensures) (c .before .if7 .taken)))) (c .refused8 .ensures))
     (λ c κs. search needs)
     (λ c.
     let h = c .before .before .before .before in
@@ -70,14 +62,8 @@ pdx-call-spec =
     let j = o .before .before .before .before in
     let a = j .before .before .before .before .before in
     by-late _ _ _ _ (a .before .before .before .if1 .left) (a .before .before .if2 .left) (rw (lt-ltb _ _ (a .before .if3 .left), lt-ltb _ _ (a .if4 .left)))
-    (ap not (j .before .before .if5 .left)) (rw (
-      ← j .judge .ensures,
-      o .before .before .pair .given .1,
-      ← o .object-covering .ensures,
-      holds (i .is-entry .ensures) (h .before .if6 .left),
-      holds (h .has-room .ensures) (c .before .before .before .if7 .left),
-      le-ltb _ _ (c .before .if8 .taken),
-    ))
+    (ap not (j .before .before .if5 .left)) (rw (← j .judge .ensures, o .before .before .pair .given .1, ← o .object-covering .ensures)
+    (rw (holds (i .is-entry .ensures) (h .before .if6 .left), holds (h .has-room .ensures) (c .before .before .before .if7 .left), le-ltb _ _ (c .before .if8 .taken))))
     (c .refused9 .ensures))
     (λ c κs. search needs) (λ c κs. search needs) (λ c κs. search needs) (λ c κs. search needs)
     (λ c.
@@ -88,20 +74,7 @@ pdx-call-spec =
     let j = o .before .before .before .before in
     let a = j .before .before .before .before .before in
     by-done _ _ _ _ (a .before .before .before .if1 .left) (a .before .before .if2 .left) (rw (lt-ltb _ _ (a .before .if3 .left), lt-ltb _ _ (a .if4 .left)))
-    (ap not (j .before .before .if5 .left)) (rw (
-      ← j .judge .ensures,
-      o .before .before .pair .given .1,
-      ← o .object-covering .ensures,
-      holds (i .is-entry .ensures) (h .before .if6 .left),
-      holds (h .has-room .ensures) (g .before .before .if7 .left),
-      lt-ltb _ _ (g .if8 .left),
-    ))
-    (rw (
-      ← j .judge .ensures,
-      o .before .before .pair .given .1,
-      ← o .object-covering .ensures,
-      c .done .ensures,
-      c .before .with-domain .ensures,
-      c .before .before .save-domain .ensures,
-      c .before .before .before .entered .ensures,
-    ))))
+    (ap not (j .before .before .if5 .left)) (rw (← j .judge .ensures, o .before .before .pair .given .1, ← o .object-covering .ensures)
+    (rw (holds (i .is-entry .ensures) (h .before .if6 .left), holds (h .has-room .ensures) (g .before .before .if7 .left), lt-ltb _ _ (g .if8 .left))))
+    (rw (← j .judge .ensures, o .before .before .pair .given .1, ← o .object-covering .ensures)
+    (rw (c .done .ensures, c .before .with-domain .ensures, c .before .before .save-domain .ensures, c .before .before .before .entered .ensures)))))

@@ -20,9 +20,12 @@ pdx-return-spec =
     (λ c κs. search needs)
     (λ c. by-domain _ _ _ _ (c .before .before .if1 .left) (c .before .if2 .taken) (c .refused2 .ensures))
     (λ c. search needs) (λ c. search needs) (λ c κs. search needs)
-    (λ c. by-late _ _ _ _ (c .before .before .before .before .before .if1 .left) (c .before .before .before .before .if2 .left) refl refl (rw (ap (ltb 0) (c .before .if3 .taken))) (c .refused3 .ensures))
+    (λ c.
+    let a = c .before .before .before .before in
+    by-late _ _ _ _ (a .before .if1 .left) (a .if2 .left) refl refl (rw (ap (ltb 0) (c .before .if3 .taken))) (c .refused3 .ensures))
     (λ c κs. search needs) (λ c κs. search needs) (λ c κs. search needs)
     (λ c.
-    let a = c .before .before .before in
-    by-done _ _ _ _ (a .before .before .before .before .if1 .left) (a .before .before .before .if2 .left) refl refl (rw (lt-ltb _ _ (pos-of-ne-zero (a .if3 .left))))
+    let h = c .before .before .before in
+    let a = h .before .before .before in
+    by-done _ _ _ _ (a .before .if1 .left) (a .if2 .left) refl refl (rw (lt-ltb _ _ (pos-of-ne-zero (h .if3 .left))))
     (rw (c .done .ensures, c .before .with-domain .ensures, c .before .before .restore-domain .ensures))))

@@ -1,0 +1,178 @@
+-- What demand 3 comes to for one domain, for the empty group, and for all four domains.
+use Prim.Native.Nat.{ℕ, _/_, _<_}
+use mathlib.Core.Path.{_≡_, refl, sym, ap, _∙_}
+use mathlib.Core.Bool.{true, false, true≢false, and-true, and-false}
+use mathlib.Core.List.{List, [], _∷_}
+use mathlib.Core.Logic.{_⊎_, inl, inr, ⊎-elim}
+use mathlib.Core.Option.{Option, none, some}
+use native.Mathlib.Omega.{arith}
+use lib.Dec.{ltb, eqb}
+use lib.ListN.{List·getD-eq-default, getD-replicate}
+use borrow.Author.Tests.{ltb-false, eqb-true, lt-ltb}
+use Rattle.bounded.specs.Bools.{and-right, and-no, or-unless, flag}
+use Rattle.state.specs.Places.{noPassword, noEstate, freeObject}
+use Rattle.state.specs.Sound.{sound}
+use Rattle.state.specs.Lookup.{objectBased, placeOf, hasPassword}
+use Rattle.state.specs.Laws.Parts.{state-parts}
+use Rattle.state.specs.Laws.Lookup.{Ordinary, has-parts, based-none}
+use Rattle.state.specs.declared.State.{State}
+use Rattle.calls.specs.Answers.{numberOf}
+use Rattle.calls.specs.Arguments.{presented}
+use Rattle.calls.specs.View.{World, early}
+use Rattle.calls.specs.Checks.{checks}
+use Rattle.calls.specs.Step.{worldOf, step}
+use Rattle.calls.specs.Boot.{homeOf}
+use Rattle.calls.specs.Laws.Order.{done-hold}
+use Rattle.calls.specs.Laws.Booted.{boot-sound}
+use Rattle.calls.specs.Laws.Sound.{step-sound}
+use Rattle.calls.specs.declared.Call.{Call}
+use Rattle.calls.specs.declared.Call.the-variants.{Read, Write, Execute, Lookup, Create, Delete, AddPassword, DropPassword, Register, Insert, Remove, Get, Lock, PdxCall, PdxReturn}
+use Rattle.calls.specs.declared.Presented.{Presented}
+use Rattle.isolation.specs.Group.{Group, member}
+use Rattle.isolation.specs.Runs.{Event, Run, bootOf, startOf, resultOf, membersOnly, membersCalls}
+use Rattle.isolation.specs.Premises.{staysInside, HeldInside, changesInside}
+use Rattle.isolation.specs.Claim.{Isolated}
+use Rattle.isolation.specs.Members.{member-below}
+use Rattle.isolation.specs.Theorem.{isolation}
+use Rattle.isolation.specs.Slots.{CallsAlong, slots-follow}
+
+-- the boot of a run is answered 0
+abbrev pub Booted : Run → Type 0
+Booted r = numberOf (bootOf r .outcome .answer) ≡ 0
+
+-- the calls of a run meet their premises
+abbrev pub CallsMeet : Group → Run → Type 0
+CallsMeet G r = CallsAlong G (startOf r) (r .events)
+
+-- DEMAND 3 WITH NOTHING ASKED OF SLOTS: the premises on the calls are enough.
+pub isolation-by-calls : (G : Group) (r r′ : Run) → Booted r → Booted r′ → ((d : ℕ) → member G d ≡ true → homeOf (r .homes) d ≡ homeOf (r′ .homes) d)
+    → membersCalls G r ≡ membersCalls G r′ → CallsMeet G r → CallsMeet G r′ → Isolated G r r′
+isolation-by-calls G r r′ b b′ homes calls p p′ =
+    isolation G r r′
+    (record { booted = b; booted′ = b′; homes = homes; calls = calls; premises = slots-follow G r p; premises′ = slots-follow G r′ p′ })
+
+-- THE GROUP OF ONE DOMAIN
+abbrev pub only : ℕ → Group
+only d = record { domains = eqb d }
+
+-- has no other member
+pub only-member : (d : ℕ) → d < 4 → (e : ℕ) → member (only d) e ≡ eqb d e
+unfolding member
+only-member d l e =
+    ⊎-elim (λ t. rw (lt-ltb e 4 (omega (arith, eqb-true d e t)))) (λ f. and-no (ltb e 4) f ∙ sym f) (flag (eqb d e))
+
+-- WHAT A MODULE SEES DEPENDS ON ITS OWN CALLS: in two runs whose calls meet the premises, with the same home password and the same calls
+-- of a domain, it gets the same answers and ends with the same words, objects, slots, locks and saved domains. Of its slots nothing is
+-- asked.
+pub alone-same : (d : ℕ) (r r′ : Run) → Booted r → Booted r′ → homeOf (r .homes) d ≡ homeOf (r′ .homes) d
+    → membersCalls (only d) r ≡ membersCalls (only d) r′ → CallsMeet (only d) r → CallsMeet (only d) r′ → Isolated (only d) r r′
+unfolding member
+alone-same d r r′ b b′ home =
+    isolation-by-calls (only d) r r′ b b′ (λ e m. let q : d ≡ e = eqb-true d e (and-right (ltb e 4) (eqb d e) m) in rw q at home)
+
+-- THE EMPTY GROUP
+abbrev pub nobody : Group
+nobody = record { domains = λ d. false }
+
+-- has no member, so its members make no calls
+pub nobody-member : (d : ℕ) → member nobody d ≡ false
+unfolding member
+nobody-member d = and-false (ltb d 4)
+
+nobody-calls : (es : List Event) → membersOnly nobody es ≡ []
+unfolding membersOnly
+nobody-calls [] = refl
+nobody-calls (e ∷ es) = rw (nobody-member (e .domain)) (nobody-calls es)
+
+-- and nothing inside, so no outsider's call is a change inside
+nobody-changes : (c : Call) → changesInside nobody c ≡ false
+nobody-changes (Read a) = refl
+nobody-changes (Write a v) = nobody-member _
+nobody-changes (Execute a) = refl
+nobody-changes (Lookup a r) = refl
+nobody-changes (Create p n k) = refl
+nobody-changes (Delete b) = nobody-member _
+nobody-changes (AddPassword b k m) = nobody-member _
+nobody-changes (DropPassword b k) = nobody-member _
+nobody-changes (Register b k l es) = nobody-member _
+nobody-changes (Insert i l) = refl
+nobody-changes (Remove i) = refl
+nobody-changes Get = refl
+nobody-changes (Lock i) = refl
+nobody-changes (PdxCall a ch) = refl
+nobody-changes PdxReturn = refl
+
+nobody-meets : (es : List Event) (w : World) → CallsAlong nobody w es
+nobody-meets [] w = tt
+nobody-meets (e ∷ es) w = (
+  record {
+    of-member = λ m. absurd (true≢false (sym m ∙ nobody-member (e .domain)));
+    of-outsider = λ o. record { granted = λ z. nobody-changes (e .call) };
+  },
+  nobody-meets es (worldOf (resultOf w e)),
+)
+
+-- OF THE EMPTY GROUP NOTHING IS ASKED: any two runs do.
+pub nobody-same : (r r′ : Run) → Booted r → Booted r′ → Isolated nobody r r′
+nobody-same r r′ b b′ =
+    isolation-by-calls nobody r r′ b b′ (λ d m. absurd (true≢false (sym m ∙ nobody-member d))) (rw (nobody-calls (r .events), nobody-calls (r′ .events)))
+    (nobody-meets (r .events) (startOf r)) (nobody-meets (r′ .events) (startOf r′))
+
+-- THE GROUP OF ALL FOUR
+abbrev pub everyone : Group
+everyone = record { domains = λ d. true }
+
+-- has every domain below 4, and no other
+pub everyone-member : (d : ℕ) → member everyone d ≡ ltb d 4
+unfolding member
+everyone-member d = and-true (ltb d 4)
+
+-- a free object has no password
+free-password : (word : ℕ) → hasPassword freeObject word ≡ false
+free-password word = ⊎-elim (λ t. absurd (no (has-parts freeObject word t))) (λ f. f) (flag (hasPassword freeObject word))
+  where
+    no : (0 < word) × ((0 ≡ word) ⊎ Ordinary freeObject word) → ⊥
+    no (p, inl e) = omega arith
+    no (p, inr o) = omega (arith, ap (λ x. x .word) (getD-replicate 4 (placeOf freeObject word) noPassword noPassword (o .within)))
+
+-- a page below 128 is inside, and no object has a base above: no capability is true outside
+everyone-stays : (s : State) → sound s ≡ true → (page password : ℕ) → staysInside everyone (s .table) page password ≡ true
+unfolding staysInside objectBased
+everyone-stays s h page password =
+    or-unless _ _
+    (λ o. let above = ltb-false (page / 32) 4 (sym (everyone-member (page / 32)) ∙ o) in
+    let past = List·getD-eq-default (s .table .estates) noEstate {n = page / 32} (omega (arith, state-parts s h .long-estates)) in
+    rw (past, based-none page, free-password password))
+
+everyone-holds : (s : State) → sound s ≡ true → (o : Option Presented) → HeldInside everyone (s .table) o
+everyone-holds s h none = tt
+everyone-holds s h (some l) = everyone-stays s h (l .page) (l .password)
+
+-- a done call is one of a member's: a number above 3 is refused
+done-below : (w : World) (d : ℕ) (c : Call) → numberOf (step w d c .outcome .answer) ≡ 0 → ltb d 4 ≡ true
+unfolding checks early
+done-below w d c z = done-hold w d c .0 z .1 .1 .0
+
+everyone-meets : (es : List Event) (w : World) → sound (w .state) ≡ true → CallsAlong everyone w es
+everyone-meets [] w h = tt
+everyone-meets (e ∷ es) w h = (
+  record {
+    of-member = λ m. record {
+      held = everyone-holds (w .state) h (presented (e .call));
+      lists = λ j slot place l n. everyone-stays (w .state) h _ _;
+    };
+    of-outsider = λ o. record {
+      granted = λ z. absurd (true≢false (sym (done-below w (e .domain) (e .call) z) ∙ sym (everyone-member (e .domain)) ∙ o));
+    };
+  },
+  everyone-meets es (worldOf (resultOf w e)) (step-sound w (e .domain) (e .call) h),
+)
+
+-- A RUN IS DETERMINED BY ITS HOME PASSWORDS AND THE CALLS OF THE FOUR DOMAINS: nothing further is asked. The store before the boot, who
+-- boots, and the calls by domain numbers above 3 do not matter.
+pub everyone-same : (r r′ : Run) → Booted r → Booted r′ → ((d : ℕ) → d < 4 → homeOf (r .homes) d ≡ homeOf (r′ .homes) d)
+    → membersCalls everyone r ≡ membersCalls everyone r′ → Isolated everyone r r′
+everyone-same r r′ b b′ homes calls =
+    isolation-by-calls everyone r r′ b b′ (λ d m. homes d (member-below everyone d m)) calls
+    (everyone-meets (r .events) (startOf r) (boot-sound (r .store) (r .booter) (r .homes)))
+    (everyone-meets (r′ .events) (startOf r′) (boot-sound (r′ .store) (r′ .booter) (r′ .homes)))
