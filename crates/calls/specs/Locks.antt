@@ -1,5 +1,4 @@
 -- Locks, as computed runs behind the listing of document 01.
-use Prim.Native.Nat.{ℕ}
 use mathlib.Core.Path.{_≡_, refl}
 use mathlib.Core.List.{List, [], _∷_, _++_, map}
 use Rattle.judge.specs.Judged.{judged}
