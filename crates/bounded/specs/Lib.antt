@@ -3,3 +3,4 @@ pub mod Search
 pub mod Place
 pub mod Every
 pub mod Fill
+pub mod Folds

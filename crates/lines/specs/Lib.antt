@@ -1,0 +1,7 @@
+pub mod Number
+pub mod Split
+pub mod Arguments
+pub mod Grammar
+pub mod Reading
+pub mod Joined
+pub mod Examples

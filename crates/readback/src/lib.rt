@@ -1,0 +1,1 @@
+// No code: the laws in specs/ tie the numbers that are read to those that are printed.
