@@ -1,0 +1,11 @@
+//! A second implementation of the call program, by the paper.
+
+pub mod compare;
+pub mod coverage;
+pub mod damage;
+pub mod generate;
+pub mod inputs;
+pub mod lines;
+pub mod monitor;
+pub mod random;
+pub mod workload;

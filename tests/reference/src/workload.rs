@@ -1,0 +1,169 @@
+//! Lines for benchmarks: mostly granted RD, WR, LK, CA and RT over Clists of
+//! 10 to 60 pairs.
+
+use crate::generate::Line;
+use crate::monitor::*;
+use crate::random::Random;
+use std::io::{self, Write};
+
+/// The pairs filled in each domain's Clist.
+pub const PAIRS: [u64; DOMAINS] = [10, 25, 40, 60];
+
+/// The home password of a domain.
+fn home(d: u64) -> u64 {
+    11 + d
+}
+
+/// A domain's objects, by page within the estate: the home page 0, the Clist
+/// in pages 1 and 2, the service in page 3, data in pages 4 to 7.
+const CLIST: u64 = 1;
+const SERVICE: u64 = 3;
+const DATA: [u64; 4] = [4, 5, 6, 7];
+
+fn clist_password(d: u64) -> u64 {
+    100 + d
+}
+
+fn service_password(d: u64) -> u64 {
+    200 + d
+}
+
+fn entry_password(d: u64) -> u64 {
+    300 + d
+}
+
+fn data_password(d: u64, page: u64) -> u64 {
+    400 + 10 * d + page
+}
+
+fn base(d: u64, page: u64) -> u64 {
+    d * ESTATE_PAGES + page
+}
+
+/// The lines that set the stage.
+pub fn stage() -> Vec<Line> {
+    let mut lines = vec![Line::new(0, "BT", &[home(0), home(1), home(2), home(3)])];
+    for d in 0..DOMAINS as u64 {
+        lines.push(Line::new(d, "CR", &[base(d, CLIST), 2, clist_password(d)]));
+        lines.push(Line::new(
+            d,
+            "CR",
+            &[base(d, SERVICE), 1, service_password(d)],
+        ));
+        for page in DATA {
+            lines.push(Line::new(
+                d,
+                "CR",
+                &[base(d, page), 1, data_password(d, page)],
+            ));
+        }
+        // The home Clist owns the domain's Clist and service.
+        let start = base(d, 0) * PAGE_WORDS;
+        let own = [
+            (base(d, CLIST), clist_password(d)),
+            (base(d, SERVICE), service_password(d)),
+        ];
+        for (i, (page, password)) in own.into_iter().enumerate() {
+            let at = start + 2 + 2 * i as u64;
+            lines.push(Line::new(d, "WR", &[at, page * 256 + OWNER]));
+            lines.push(Line::new(d, "WR", &[at + 1, password]));
+        }
+        let args = [base(d, CLIST), clist_password(d)];
+        lines.push(Line::new(d, "IN", &[1, args[0], args[1]]));
+        let entry = base(d, SERVICE) * PAGE_WORDS;
+        let args = [
+            base(d, SERVICE),
+            entry_password(d),
+            base(d, CLIST),
+            clist_password(d),
+            entry,
+            entry + 8,
+        ];
+        lines.push(Line::new(d, "RG", &args));
+    }
+    for d in 0..DOMAINS as u64 {
+        let start = base(d, CLIST) * PAGE_WORDS;
+        for place in 0..PAIRS[d as usize] {
+            let (page, password) = pair(d, place);
+            let at = start + 2 * place;
+            lines.push(Line::new(d, "WR", &[at, page * 256 + OWNER]));
+            lines.push(Line::new(d, "WR", &[at + 1, password]));
+        }
+    }
+    lines
+}
+
+/// The pair at a place of a domain's Clist: the last six are its data and two
+/// services, the others belong to other domains or have died.
+fn pair(d: u64, place: u64) -> (u64, u64) {
+    let last = PAIRS[d as usize] - 6;
+    let next = (d + 1) % 4;
+    if place >= last + 4 {
+        let e = if place == last + 4 { d } else { next };
+        (base(e, SERVICE), entry_password(e))
+    } else if place >= last {
+        let page = DATA[(place - last) as usize];
+        (base(d, page), data_password(d, page))
+    } else {
+        let page = DATA[(place % 4) as usize];
+        match place % 5 {
+            0 => (base(d, page), 9999),
+            1 => (base(d, 20 + page), data_password(d, page)),
+            _ => (base(next, page), data_password(next, page)),
+        }
+    }
+}
+
+/// Write a workload of so many lines, the stage included.
+pub fn write<O: Write>(lines: u64, output: &mut O) -> io::Result<()> {
+    let mut random = Random::new(1);
+    let mut depth = [0u64; DOMAINS];
+    let stage = stage();
+    for i in 0..lines {
+        let line = match stage.get(i as usize) {
+            Some(line) => line.clone(),
+            None => step(&mut random, &mut depth),
+        };
+        output.write_all(&line.bytes())?;
+        output.write_all(b"\n")?;
+    }
+    output.flush()
+}
+
+fn step(random: &mut Random, depth: &mut [u64; DOMAINS]) -> Line {
+    let d = random.below(4);
+    let at = |page: u64, random: &mut Random| base(d, page) * PAGE_WORDS + random.below(PAGE_WORDS);
+    let page = random.pick(&DATA);
+    match random.below(100) {
+        0..=29 => Line::new(d, "RD", &[at(page, random)]),
+        30..=54 => {
+            let address = at(page, random);
+            Line::new(d, "WR", &[address, random.word()])
+        }
+        55..=74 => {
+            let rights = random.pick(&[1, 2, 3, 4, 8, 15]);
+            Line::new(d, "LK", &[at(page, random), rights])
+        }
+        75..=96 => {
+            // Up to three calls deep, and back.
+            let deep = &mut depth[d as usize];
+            if *deep == 3 || (*deep > 0 && random.percent(50)) {
+                *deep -= 1;
+                Line::new(d, "RT", &[])
+            } else {
+                *deep += 1;
+                let e = if random.percent(50) { d } else { (d + 1) % 4 };
+                let entry = base(e, SERVICE) * PAGE_WORDS + random.pick(&[0, 8]);
+                // Its own Clist alone still grants what the domain asks for.
+                let choice = u64::from(e == d && random.percent(30));
+                Line::new(d, "CA", &[entry, choice])
+            }
+        }
+        // Refused: pages that are no object's, or another domain's.
+        _ => {
+            let page = random.pick(&[30, 31, 64 + CLIST]);
+            let address = base(d, page) * PAGE_WORDS % WORDS;
+            Line::new(d, "RD", &[address])
+        }
+    }
+}
