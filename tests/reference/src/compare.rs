@@ -39,31 +39,36 @@ pub fn run_program(program: &str, input: &[u8]) -> io::Result<Ran> {
         .stderr(Stdio::null())
         .spawn()?;
     let mut to = child.stdin.take().expect("piped");
-    let mut from = child.stdout.take().expect("piped");
+    let from = child.stdout.take().expect("piped");
     let input = input.to_vec();
+    // No right output is as long as this.
+    let feeds = input.iter().filter(|&&b| b == b'\n').count() as u64;
+    let most = 1000 + 200 * feeds;
     // A program that stops reading early shows in its output.
-    let feeder = thread::spawn(move || drop(to.write_all(&input)));
+    thread::spawn(move || drop(to.write_all(&input)));
     let (send, receive) = mpsc::channel();
-    let reader = thread::spawn(move || {
+    thread::spawn(move || {
         let mut output = Vec::new();
-        let result = from.read_to_end(&mut output).map(|_| output);
+        let result = from.take(most).read_to_end(&mut output).map(|_| output);
         drop(send.send(result));
     });
-    let Ok(output) = receive.recv_timeout(LIMIT) else {
-        child.kill()?;
-        child.wait()?;
-        return Ok(Ran {
-            output: Vec::new(),
-            trouble: Some(format!("no end within {} s", LIMIT.as_secs())),
-        });
+    let (output, trouble) = match receive.recv_timeout(LIMIT) {
+        Ok(output) => {
+            let output = output?;
+            let flood = output.len() as u64 == most;
+            (output, flood.then(|| "no end of output".to_string()))
+        }
+        Err(_) => {
+            let trouble = format!("no end within {} s", LIMIT.as_secs());
+            (Vec::new(), Some(trouble))
+        }
     };
+    if trouble.is_some() {
+        child.kill()?;
+    }
     let status = child.wait()?;
-    drop(reader.join());
-    drop(feeder.join());
-    Ok(Ran {
-        output: output?,
-        trouble: (!status.success()).then(|| status.to_string()),
-    })
+    let trouble = trouble.or_else(|| (!status.success()).then(|| status.to_string()));
+    Ok(Ran { output, trouble })
 }
 
 /// An input on which two implementations differ, and their outputs.

@@ -320,13 +320,14 @@ pub const SITUATIONS: &[(&str, Test)] = &[
         else {
             return false;
         };
+        if !s.refused(Refusal::NotGranted) {
+            return false;
+        }
         let Some(i) = s.before.index_at(base * PAGE_WORDS) else {
             return false;
         };
         let object = &s.before.objects[i];
-        s.refused(Refusal::NotGranted)
-            && object.base != *base
-            && s.before.granting_pair(d, object, OWNER).is_some()
+        object.base != *base && s.before.granting_pair(d, object, OWNER).is_some()
     }),
     ("LK of P granted", |s| {
         s.done() && matches!(s.call, Call::Lk { rights: P, .. })

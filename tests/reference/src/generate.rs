@@ -201,10 +201,13 @@ impl Generator {
         self.left -= 1;
         let planned = !self.random.percent(8);
         let mut line = if planned {
-            while self.queue.is_empty() {
-                self.plan();
+            for _ in 0..30 {
+                if self.queue.is_empty() {
+                    self.plan();
+                }
             }
-            self.queue.pop_front().expect("just filled")
+            let line = self.queue.pop_front();
+            line.unwrap_or_else(|| self.stray_line())
         } else {
             self.stray_line()
         };
@@ -215,7 +218,7 @@ impl Generator {
             let d = line.domain;
             line.domain =
                 self.random
-                    .pick(&[4, 5, 255, TOP, d + 4, d + 256, d + (1 << 32), d + (1 << 63)]);
+                    .pick(&[4, 5, 255, TOP, d + 4, d + 256, d + WIDE, d + (1 << 63)]);
             if self.random.percent(30) {
                 self.distort(&mut line);
             }
@@ -305,7 +308,7 @@ impl Generator {
 
     /// New passwords, weights and busy domains.
     fn mood(&mut self) {
-        self.pool = vec![1, TOP, 1 << 63, 1 << 32, 255, 256, 15];
+        self.pool = vec![1, TOP, 1 << 63, WIDE, 255, 256, 15];
         for _ in 0..8 {
             let small = 2 + self.random.below(60);
             self.pool.push(small);
