@@ -1,4 +1,4 @@
-# make test: proves every crate from nothing, tries the must-fail edits, and runs each program.
+# make test: proves every crate from nothing and tries the must-fail edits.
 .PHONY: test
 test:
 	@# Only the crate judge and the module that computes examples may open the judgement.
