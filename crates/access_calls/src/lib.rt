@@ -8,6 +8,9 @@ ghost use mathlib.Core.Path.{_≡_};
 ghost use Rattle.calls.specs.Step.{world, result, step};
 ghost use Rattle.calls.specs.declared.Call.the-variants.{Read, Write, Execute, Lookup};
 
+// What each call answers after check 3.
+pub mod answers;
+
 // What each call does after check 3.
 pub mod checked;
 

@@ -15,6 +15,7 @@ use Rattle.calls.specs.Changes.{value, fields, changes, applyAll}
 use Rattle.calls.specs.declared.Call.{Call}
 use Rattle.calls.specs.declared.Refusal.{Refusal}
 use Rattle.calls.specs.declared.Refusal.the-variants.{StoreLength, Unsound}
+use Rattle.calls.specs.declared.Answer.{Answer}
 use Rattle.calls.specs.declared.Answer.the-variants.{Done, Refused}
 use Rattle.calls.specs.declared.Outcome.{Outcome}
 
@@ -32,16 +33,20 @@ result o words = record { outcome = o; words = words }
 abbrev pub worldOf : Result → World
 worldOf r = world (r .outcome .state) (r .words)
 
+-- an answer without fields, with the state after it
+abbrev pub answeredWith : State → Answer → Outcome
+answeredWith s a = record { answer = a; fields = noFields; state = s }
+
 -- "A refused call gives its number and the value 0 and changes no word, table, slot, lock or saved domain."
 abbrev pub refusedWith : State → Refusal → Outcome
-refusedWith s r = record { answer = Refused r; fields = noFields; state = s }
+refusedWith s r = answeredWith s (Refused r)
 
 abbrev pub refused : World → Refusal → Result
 refused w r = result (refusedWith (w .state) r) (w .words)
 
 -- a done call's outcome, without fields
 abbrev pub doneWith : State → ℕ → Outcome
-doneWith s value = record { answer = Done value; fields = noFields; state = s }
+doneWith s value = answeredWith s (Done value)
 
 abbrev pub done : World → ℕ → Call → View → Result
 done w d c v =

@@ -6,7 +6,7 @@ ghost use Prim.Native.Nat.{_+_, _≤_};
 ghost use lib.ListN.{length};
 ghost use Rattle.calls.specs.Answers.{noFields};
 ghost use Rattle.calls.specs.Changes.{zeroed, zeroedWithin};
-ghost use Rattle.calls.specs.Step.{world, refusedWith, doneWith, admitted};
+ghost use Rattle.calls.specs.Step.{world, answeredWith, refusedWith, doneWith, admitted};
 
 // A call with its arguments, as they come.
 pub enum Call {
@@ -120,6 +120,17 @@ pub fn no_fields() -> Fields
     Fields {
         count: 0,
         values: [0; 11],
+    }
+}
+
+// An answer without fields, with the state after it.
+pub fn answered(s: State, a: Answer) -> Outcome
+    ensures { λ r. ⌜ r ≡ answeredWith s a ⌝ }
+{
+    Outcome {
+        answer: a,
+        fields: no_fields(),
+        state: s,
     }
 }
 

@@ -1,4 +1,5 @@
 pub mod Number
+pub mod Until
 pub mod Split
 pub mod Arguments
 pub mod Grammar

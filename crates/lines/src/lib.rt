@@ -6,7 +6,7 @@ ghost use mathlib.Core.Path.{_≡_};
 ghost use Prim.Native.Nat.{ℕ, _+_, _-_, _*_, _^_, _<_, _≤_};
 ghost use lib.ListN.{length, drop};
 ghost use Rattle.lines.specs.Number.{after as Number·after, grown as Number·grown, numberOf};
-ghost use Rattle.lines.specs.Split.{commaOf};
+ghost use Rattle.lines.specs.Until.{until};
 ghost use Rattle.lines.specs.Arguments.{withNumber, eightOf, argumentsOf};
 ghost use Rattle.lines.specs.Grammar.{lettersOf, exactly as Grammar·exactly, atLeast, bootOf, registerOf, domainCallOf, objectCallOf, callOf, lineOf};
 
@@ -91,14 +91,13 @@ pub fn number(s: &[u8]) -> Field
     f
 }
 
-// Where the field that starts at `from` ends.
-fn field_end(s: &[u8], from: usize) -> usize
-    requires { ⌜ from ≤ length (now s) ⌝ }
-    ensures { λ r. ⌜ (r ≡ from + commaOf (drop from (now (s .entry)))) × (from ≤ r) × (r ≤ length (now (s .entry))) ⌝ }
+// Where the first byte b from `from` on stands, or the end.
+pub fn find(s: &[u8], from: usize, b: u8) -> usize
+    ensures { λ r. ⌜ (r ≡ from + until b (drop from (now (s .entry)))) × (from ≤ r) × (r ≤ from + (length (now (s .entry)) - from)) ⌝ }
 {
     let mut i = from;
     while i < s.len() {
-        if s[i] == 44 {
+        if s[i] == b {
             return i;
         }
         i += 1;
@@ -143,7 +142,7 @@ fn read_arguments(t: &[u8]) -> Arguments
     let mut at = 0;
     while at < t.len() {
         let from = at + 1;
-        at = field_end(t, from);
+        at = find(t, from, 44);
         let Field::Number(v) = number(&t[from..at]) else {
             return Arguments::Unreadable;
         };
@@ -366,7 +365,7 @@ pub fn read_line(s: &[u8]) -> Line
     if s.len() > 200 {
         return Line::Unreadable;
     }
-    let d = field_end(s, 0);
+    let d = find(s, 0, 44);
     let Field::Number(domain) = number(&s[..d]) else {
         return Line::Unreadable;
     };
@@ -374,7 +373,7 @@ pub fn read_line(s: &[u8]) -> Line
         return Line::Unreadable;
     }
     let from = d + 1;
-    let e = field_end(s, from);
+    let e = find(s, from, 44);
     let letters = letters_of(&s[from..e]);
     let Arguments::Numbers(n, x) = read_arguments(&s[e..]) else {
         return Line::Unreadable;

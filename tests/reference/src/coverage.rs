@@ -1,8 +1,9 @@
-//! Which answers can occur, which states a run came to, and counters of both.
+//! Which answers can occur, which states and bounds a run comes to, and
+//! counters of all three.
 
 use crate::lines::{self, LETTERS};
 use crate::monitor::*;
-use std::collections::BTreeMap;
+use std::collections::{BTreeMap, BTreeSet};
 
 /// Stands for the letters of a line that has none of the sixteen.
 pub const NO_LETTERS: &str = "--";
@@ -165,6 +166,25 @@ impl Seen<'_> {
         self.before.granting_pair(d, object, OWNER).map(|_| object)
     }
 
+    /// Refused, though the page lies in an object that the domain owns.
+    fn inner_page(&self) -> bool {
+        let (Call::Dl { base }
+        | Call::Ap { base, .. }
+        | Call::Dp { base, .. }
+        | Call::Rg { base, .. }) = self.call
+        else {
+            return false;
+        };
+        if !self.refused(Refusal::NotGranted) {
+            return false;
+        }
+        let (Some(d), Some(i)) = (self.d(), self.before.index_at(base * PAGE_WORDS)) else {
+            return false;
+        };
+        let object = &self.before.objects[i];
+        object.base != *base && self.before.granting_pair(d, object, OWNER).is_some()
+    }
+
     fn presented(&self) -> Option<Capability> {
         match *self.call {
             Call::In { list, .. } | Call::Rg { list, .. } => Some(list),
@@ -314,20 +334,17 @@ pub const SITUATIONS: &[(&str, Test)] = &[
     ("no object at CA's address", |s| {
         s.refused(Refusal::NotGranted) && matches!(s.call, Call::Ca { .. }) && s.wanted().is_none()
     }),
-    ("a page inside an object is no base", |s| {
-        let (Call::Dl { base } | Call::Ap { base, .. } | Call::Dp { base, .. }, Some(d)) =
-            (s.call, s.d())
-        else {
-            return false;
-        };
-        if !s.refused(Refusal::NotGranted) {
-            return false;
-        }
-        let Some(i) = s.before.index_at(base * PAGE_WORDS) else {
-            return false;
-        };
-        let object = &s.before.objects[i];
-        object.base != *base && s.before.granting_pair(d, object, OWNER).is_some()
+    ("DL of a page inside an owned object", |s| {
+        matches!(s.call, Call::Dl { .. }) && s.inner_page()
+    }),
+    ("AP of a page inside an owned object", |s| {
+        matches!(s.call, Call::Ap { .. }) && s.inner_page()
+    }),
+    ("DP of a page inside an owned object", |s| {
+        matches!(s.call, Call::Dp { .. }) && s.inner_page()
+    }),
+    ("RG of a page inside an owned object", |s| {
+        matches!(s.call, Call::Rg { .. }) && s.inner_page()
     }),
     ("LK of P granted", |s| {
         s.done() && matches!(s.call, Call::Lk { rights: P, .. })
@@ -807,11 +824,58 @@ fn dead_by(s: &Seen, test: fn(u64) -> bool) -> bool {
     })
 }
 
-/// Counts of answers and situations.
+const TOP: u64 = u64::MAX;
+const ADDRESS: [u64; 4] = [0, 8191, 8192, TOP];
+const PAGE: [u64; 4] = [0, 127, 128, TOP];
+const PASSWORD: [u64; 4] = [0, 1, TOP - 1, TOP];
+const SLOT: [u64; 4] = [0, 7, 8, TOP];
+
+/// The bounds of each call's arguments, on both sides.
+pub const BOUNDS: [(&str, &[[u64; 4]]); 14] = [
+    ("BT", &[[0, 1, 1 << 63, TOP]; 4]),
+    ("RD", &[ADDRESS]),
+    ("WR", &[ADDRESS, PASSWORD]),
+    ("EX", &[ADDRESS]),
+    ("LK", &[ADDRESS, [0, 31, 32, TOP]]),
+    ("CR", &[PAGE, [0, 32, 33, TOP], PASSWORD]),
+    ("DL", &[PAGE]),
+    ("AP", &[PAGE, PASSWORD, [0, 159, 160, TOP]]),
+    ("DP", &[PAGE, PASSWORD]),
+    ("RG", &[PAGE, PASSWORD, PAGE, PASSWORD, ADDRESS]),
+    ("IN", &[SLOT, PAGE, PASSWORD]),
+    ("RM", &[SLOT]),
+    ("LO", &[SLOT]),
+    ("CA", &[ADDRESS, [0, 1, 2, TOP]]),
+];
+
+/// More bounds: of the domain, and about the slot number of the whole lock.
+const MORE_BOUNDS: [(&str, usize, u64); 7] = [
+    (NO_LETTERS, 0, 0),
+    (NO_LETTERS, 0, 3),
+    (NO_LETTERS, 0, 4),
+    (NO_LETTERS, 0, TOP),
+    ("LO", 0, WHOLE - 1),
+    ("LO", 0, WHOLE),
+    ("LO", 0, WHOLE + 1),
+];
+
+/// Every bound as letters, the argument's number from 0, and its value.
+fn bounds() -> Vec<(&'static str, usize, u64)> {
+    let mut all = MORE_BOUNDS.to_vec();
+    for (letters, arguments) in BOUNDS {
+        for (i, values) in arguments.iter().enumerate() {
+            all.extend(values.iter().map(|&value| (letters, i, value)));
+        }
+    }
+    all
+}
+
+/// Counts of answers and situations, and the numbers that came up.
 #[derive(Default)]
 pub struct Coverage {
     answers: BTreeMap<(&'static str, u8), u64>,
     situations: BTreeMap<&'static str, u64>,
+    bounds: BTreeSet<(&'static str, usize, u64)>,
     pub lines: u64,
     pub done: u64,
 }
@@ -827,9 +891,22 @@ impl Coverage {
         self.done += u64::from(answer == 0);
     }
 
+    /// Note a readable line's numbers.
+    fn note(&mut self, letters: &'static str, line: &[u8]) {
+        let mut fields = line.split(|&b| b == b',');
+        let domain = fields.next().and_then(lines::number);
+        self.bounds.extend(domain.map(|d| (NO_LETTERS, 0, d)));
+        for (i, field) in fields.skip(1).enumerate() {
+            let value = lines::number(field);
+            self.bounds.extend(value.map(|value| (letters, i, value)));
+        }
+    }
+
     /// Run an input and count it.
     pub fn run(&mut self, mut input: &[u8]) {
-        let mut monitor = Monitor::new();
+        // One call behind `after`.
+        let mut before = Monitor::new();
+        let mut after = Monitor::new();
         let mut booted = false;
         let mut line = Vec::new();
         while let Some(whole) =
@@ -843,13 +920,13 @@ impl Coverage {
                     continue;
                 }
             };
-            let before = monitor.clone();
-            let outcome = monitor.call(domain, &call);
+            self.note(letters, &line);
+            let outcome = after.call(domain, &call);
             let answer = outcome.as_ref().map_or_else(|&r| r as u8, |_| 0);
             self.count(letters, answer);
             let seen = Seen {
                 before: &before,
-                after: &monitor,
+                after: &after,
                 booted,
                 domain,
                 call: &call,
@@ -861,6 +938,7 @@ impl Coverage {
                 }
             }
             booted |= letters == "BT" && answer == 0;
+            drop(before.call(domain, &call));
         }
     }
 
@@ -870,14 +948,6 @@ impl Coverage {
 
     pub fn situation(&self, name: &'static str) -> u64 {
         self.situations.get(name).copied().unwrap_or(0)
-    }
-
-    /// Pairs of the table that were never reached.
-    pub fn missing(&self) -> Vec<(&'static str, u8)> {
-        let pairs = TABLE
-            .iter()
-            .flat_map(|&(letters, answers)| answers.iter().map(move |&a| (letters, a)));
-        pairs.filter(|&(l, a)| self.times(l, a) == 0).collect()
     }
 
     /// Pairs that were reached and are not in the table.
@@ -891,9 +961,51 @@ impl Coverage {
         pairs.filter(|pair| !listed(pair)).collect()
     }
 
-    /// Situations that were never reached.
-    pub fn missing_situations(&self) -> Vec<&'static str> {
-        let names = SITUATIONS.iter().map(|&(name, _)| name);
-        names.filter(|name| self.situation(name) == 0).collect()
+    /// All that was never reached: pairs of call and answer, situations, bounds.
+    pub fn missing(&self) -> Vec<String> {
+        let mut missing = Vec::new();
+        for (letters, answer) in pairs() {
+            if self.times(letters, answer) == 0 {
+                missing.push(format!("{letters} with answer {answer}"));
+            }
+        }
+        for &(name, _) in SITUATIONS {
+            if self.situation(name) == 0 {
+                missing.push(name.to_string());
+            }
+        }
+        for bound in bounds() {
+            if !self.bounds.contains(&bound) {
+                let (letters, i, value) = bound;
+                missing.push(format!("{letters} with number {} at {value}", i + 1));
+            }
+        }
+        missing
     }
+
+    /// How much there is to reach, and the rarest pair and situation.
+    pub fn summary(&self) -> String {
+        let rarest = pairs().into_iter().min_by_key(|&(l, a)| self.times(l, a));
+        let (letters, answer) = rarest.expect("the table is not empty");
+        let names = SITUATIONS.iter().map(|&(name, _)| name);
+        let rare = names.min_by_key(|name| self.situation(name));
+        let rare = rare.expect("the list is not empty");
+        format!(
+            "{} pairs of call and answer (the rarest, {letters} with {answer}, {} times), \
+             {} situations (the rarest, {rare}, {} times), {} bounds",
+            pairs().len(),
+            self.times(letters, answer),
+            SITUATIONS.len(),
+            self.situation(rare),
+            bounds().len(),
+        )
+    }
+}
+
+/// Every pair of call and answer that can occur.
+pub fn pairs() -> Vec<(&'static str, u8)> {
+    TABLE
+        .iter()
+        .flat_map(|&(letters, answers)| answers.iter().map(move |&a| (letters, a)))
+        .collect()
 }

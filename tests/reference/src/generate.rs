@@ -411,6 +411,15 @@ impl Generator {
         }
     }
 
+    /// The object's base; now and then its last page, which is no base.
+    fn base(&mut self, object: &Object) -> u64 {
+        if object.pages > 1 && self.random.percent(10) {
+            object.run().end - 1
+        } else {
+            object.base
+        }
+    }
+
     /// An object that passes the test.
     fn find(&mut self, test: impl Fn(&Monitor, &Object) -> bool) -> Option<Object> {
         let objects = &self.model.objects;
@@ -666,7 +675,8 @@ impl Generator {
         }) else {
             return;
         };
-        self.push(d, "DL", &[object.base]);
+        let page = self.base(&object);
+        self.push(d, "DL", &[page]);
         if self.random.percent(60) {
             let address = self.within(&object);
             self.push(d, "RD", &[address]);
@@ -695,7 +705,8 @@ impl Generator {
     fn add(&mut self, d: usize) {
         let Some(object) = self.owned(d) else { return };
         let (password, mode) = (self.new_password(&object), self.mode());
-        self.push(d, "AP", &[object.base, password, mode]);
+        let page = self.base(&object);
+        self.push(d, "AP", &[page, password, mode]);
         if self.random.percent(70) {
             let other = self.some_domain();
             self.give(other, object.base, password);
@@ -714,7 +725,8 @@ impl Generator {
             (_, 3) if self.random.percent(30) => self.password(),
             _ => object.passwords[object.passwords.len() - 1].word,
         };
-        self.push(d, "DP", &[object.base, password]);
+        let page = self.base(&object);
+        self.push(d, "DP", &[page, password]);
     }
 
     fn entries(&mut self, object: &Object) -> Vec<u64> {
@@ -735,7 +747,8 @@ impl Generator {
         };
         let Some(list) = self.list() else { return };
         let password = self.new_password(&object);
-        let mut args = vec![object.base, password, list.page, list.password];
+        let page = self.base(&object);
+        let mut args = vec![page, password, list.page, list.password];
         args.extend(self.entries(&object));
         self.push(d, "RG", &args);
         for _ in 0..2 {

@@ -232,13 +232,79 @@ pub fn bytes() -> Vec<u8> {
     out
 }
 
+/// Lines of about 200 bytes, and a few that are much longer, among short ones.
+pub fn long_lines(seed: u64) -> Vec<u8> {
+    let mut random = Random::new(seed ^ 0x10e6);
+    let mut bytes = b"0,BT,11,12,13,14\n".to_vec();
+    for length in (199..=202).chain((0..100).map(|i| 190 + i * 7 % 21)) {
+        bytes.extend(register_line(length));
+        bytes.extend_from_slice(b"\n0,RD,0\n");
+        if random.percent(10) {
+            let more = random.index(9000);
+            bytes.resize(bytes.len() + more, b'7');
+            bytes.extend_from_slice(b"\n0,GT\n");
+        }
+    }
+    bytes
+}
+
+/// Lines that stand across a bound of the input, by every number of bytes:
+/// 4 KiB and 64 KiB are usual sizes of what is read at once.
+pub fn across() -> Vec<(String, Vec<u8>)> {
+    let mut all = Vec::new();
+    let write = b"0,WR,10,18446744073709551615".to_vec();
+    let few = [0, 1, 2, 100, 198, 199, 200, 201, 202];
+    for bound in [4096, 65_536] {
+        for (line, ahead) in [
+            (&write, (0..=write.len() + 1).collect::<Vec<_>>()),
+            (&register_line(200), few.to_vec()),
+            (&register_line(201), few.to_vec()),
+        ] {
+            for ahead in ahead {
+                let mut bytes = b"0,BT,11,12,13,14\n".to_vec();
+                // One long line before it, or many of 99 bytes and a rest.
+                let start = bound - ahead;
+                while ahead % 2 == 1 && bytes.len() + 100 < start {
+                    bytes.extend(register_line(99));
+                    bytes.push(b'\n');
+                }
+                bytes.resize(start - 1, b'7');
+                bytes.push(b'\n');
+                bytes.extend_from_slice(line);
+                bytes.extend_from_slice(b"\n0,RD,10\n0,GT\n");
+                let name = format!("{} bytes across {bound}, {ahead} ahead", line.len());
+                all.push((name, bytes));
+            }
+        }
+    }
+    all
+}
+
+/// Lines with bytes changed, taken out and put in.
+pub fn damaged_bytes(seed: u64, lines: u64) -> Vec<u8> {
+    let mut random = Random::new(seed ^ 0xda3a);
+    let mut bytes = input(seed, lines.min(1000));
+    for _ in 0..bytes.len() / 60 {
+        let at = random.index(bytes.len());
+        match random.below(3) {
+            0 => bytes[at] = random.word() as u8,
+            1 => {
+                bytes.remove(at);
+            }
+            _ => bytes.insert(at, random.pick(b"0,\n\r R9")),
+        }
+    }
+    bytes
+}
+
 /// How many ways `rubbish` knows.
-pub const RUBBISH: u64 = 14;
+pub const RUBBISH: u64 = 16;
 
 /// Input that is no list of lines, in the way `seed % RUBBISH`.
 pub fn rubbish(seed: u64, lines: u64) -> Vec<u8> {
     let mut random = Random::new(seed ^ 0x5eed);
-    let some = 200 + random.index(3000);
+    let most = random.pick(&[30, 3000, 30_000]);
+    let some = 1 + random.index(most);
     let lines = lines.min(1000);
     match seed % RUBBISH {
         0 => Vec::new(),
@@ -248,21 +314,7 @@ pub fn rubbish(seed: u64, lines: u64) -> Vec<u8> {
             let alphabet = b"0123456789,,,,,RDWRLKCABTGTRT\n\n";
             (0..some).map(|_| random.pick(alphabet)).collect()
         }
-        // Bytes changed, taken out and put in.
-        4 => {
-            let mut bytes = input(seed, lines);
-            for _ in 0..bytes.len() / 60 {
-                let at = random.index(bytes.len());
-                match random.below(3) {
-                    0 => bytes[at] = random.word() as u8,
-                    1 => {
-                        bytes.remove(at);
-                    }
-                    _ => bytes.insert(at, random.pick(b"0,\n\r R9")),
-                }
-            }
-            bytes
-        }
+        4 => damaged_bytes(seed, lines),
         // Cut in the midst of a line.
         5 => {
             let mut bytes = input(seed, lines);
@@ -281,8 +333,8 @@ pub fn rubbish(seed: u64, lines: u64) -> Vec<u8> {
             }
             bytes
         }
-        // One long line without an end.
-        7 => vec![random.pick(b"0,R\0\xff"); 300_000 + some],
+        // More than a MiB without a line feed.
+        7 => vec![random.pick(b"0,R\0\xff"); (1 << 20) + some],
         8 => {
             let mut bytes = input(seed, lines);
             for _ in 0..40 {
@@ -292,20 +344,22 @@ pub fn rubbish(seed: u64, lines: u64) -> Vec<u8> {
             bytes
         }
         9 => vec![0; some],
-        // Lines ended by carriage return and line feed.
-        10 => {
+        // Lines ended by carriage return and line feed, or the first alone.
+        10 | 11 => {
             let bytes = input(seed, lines);
             let mut out = Vec::new();
             for byte in bytes {
                 if byte == b'\n' {
                     out.push(b'\r');
                 }
-                out.push(byte);
+                if byte != b'\n' || seed % RUBBISH == 10 {
+                    out.push(byte);
+                }
             }
             out
         }
         // No line feed at the end.
-        11 => {
+        12 => {
             let mut bytes = input(seed, lines);
             while bytes.last() == Some(&b'\n') {
                 bytes.pop();
@@ -313,7 +367,7 @@ pub fn rubbish(seed: u64, lines: u64) -> Vec<u8> {
             bytes
         }
         // Lines in runs of line feeds.
-        12 => {
+        13 => {
             let mut out = Vec::new();
             for byte in input(seed, lines.min(300)) {
                 out.push(byte);
@@ -322,6 +376,15 @@ pub fn rubbish(seed: u64, lines: u64) -> Vec<u8> {
                 }
             }
             out
+        }
+        // Lines in the wrong order.
+        14 => {
+            let bytes = input(seed, lines);
+            let mut all: Vec<&[u8]> = bytes.split_inclusive(|&b| b == b'\n').collect();
+            for i in (1..all.len()).rev() {
+                all.swap(i, random.index(i + 1));
+            }
+            all.concat()
         }
         // A last line of 200 bytes and more without its line feed.
         _ => {

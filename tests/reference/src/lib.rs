@@ -1,5 +1,6 @@
 //! A second implementation of the call program, by the paper.
 
+pub mod cases;
 pub mod compare;
 pub mod coverage;
 pub mod damage;

@@ -40,6 +40,16 @@ fn base(d: u64, page: u64) -> u64 {
     d * ESTATE_PAGES + page
 }
 
+/// A word of a domain's data, in the page that its Clist names last.
+pub fn data_word(d: u64) -> u64 {
+    base(d, DATA[3]) * PAGE_WORDS
+}
+
+/// The first entry of a domain's service.
+pub fn entry(d: u64) -> u64 {
+    base(d, SERVICE) * PAGE_WORDS
+}
+
 /// The lines that set the stage.
 pub fn stage() -> Vec<Line> {
     let mut lines = vec![Line::new(0, "BT", &[home(0), home(1), home(2), home(3)])];
@@ -70,14 +80,13 @@ pub fn stage() -> Vec<Line> {
         }
         let args = [base(d, CLIST), clist_password(d)];
         lines.push(Line::new(d, "IN", &[1, args[0], args[1]]));
-        let entry = base(d, SERVICE) * PAGE_WORDS;
         let args = [
             base(d, SERVICE),
             entry_password(d),
             base(d, CLIST),
             clist_password(d),
-            entry,
-            entry + 8,
+            entry(d),
+            entry(d) + 8,
         ];
         lines.push(Line::new(d, "RG", &args));
     }
@@ -153,7 +162,7 @@ fn step(random: &mut Random, depth: &mut [u64; DOMAINS]) -> Line {
             } else {
                 *deep += 1;
                 let e = if random.percent(50) { d } else { (d + 1) % 4 };
-                let entry = base(e, SERVICE) * PAGE_WORDS + random.pick(&[0, 8]);
+                let entry = entry(e) + random.pick(&[0, 8]);
                 // Its own Clist alone still grants what the domain asks for.
                 let choice = u64::from(e == d && random.percent(30));
                 Line::new(d, "CA", &[entry, choice])

@@ -1,9 +1,13 @@
 //! The comparison: silent on the reference itself, and loud on broken copies.
 
-use refmonitor::compare::{differ, report, search, shrink, Difference, Ran};
+use refmonitor::compare::{
+    differ, in_form, line_count, report, run_program, search, shortest, Difference, Feed, Other,
+    Plan, Ran,
+};
 use refmonitor::lines::{run_bytes, run_with};
 use refmonitor::monitor::*;
 use std::process::Command;
+use std::time::Duration;
 
 /// A broken way of answering; the number is a memory of its own.
 type Answer = fn(&mut Monitor, &mut u64, u64, &Call) -> Outcome;
@@ -20,13 +24,22 @@ fn run_broken(answer: Answer, input: &[u8]) -> Ran {
 
 /// A found difference, shortened; it must still be one, and be short.
 #[track_caller]
-fn found(name: &str, other: &mut dyn FnMut(&[u8]) -> Ran, most: usize) -> Difference {
-    let difference = search(other, 12, 4000, &mut |_| {});
-    let difference = difference.unwrap_or_else(|| panic!("{name}: not found"));
-    let short = shrink(other, difference);
-    let lines = short.input.split_inclusive(|&b| b == b'\n').count();
+fn found(name: &str, other: Other, most: usize) -> Difference {
+    let plan = Plan {
+        first: 1,
+        seeds: 8,
+        lines: 2000,
+    };
+    let Err(found) = search(other, plan, &mut |_| {}) else {
+        panic!("{name}: not found");
+    };
+    let short = shortest(other, found, Duration::from_secs(1)).unwrap();
+    let lines = line_count(&short.input);
     println!("{name}: {lines} lines\n{}", report(&short));
-    assert!(differ(other, &short.input).is_some(), "{name}");
+    assert!(
+        differ(other, name, &short.input, Feed::File).is_some(),
+        "{name}"
+    );
     assert!(lines <= most, "{name}: {lines} lines");
     short
 }
@@ -592,21 +605,40 @@ const BROKEN: &[(&str, Answer)] = &[
     }),
 ];
 
+const SHORT: Plan = Plan {
+    first: 1,
+    seeds: 4,
+    lines: 3000,
+};
+
 #[test]
 fn the_reference_agrees_with_itself() {
-    let mut same = |input: &[u8]| Ran::well(run_bytes(input));
+    let mut same = |input: &[u8], _| Ran::well(run_bytes(input));
     let mut told = Vec::new();
-    let none = search(&mut same, 4, 3000, &mut |what| told.push(what.to_string()));
-    assert!(none.is_none());
-    assert!(told.contains(&"seed 4".to_string()));
-    let mut same = |input: &[u8]| run_broken(|m, _, d, c| m.call(d, c), input);
-    assert!(search(&mut same, 2, 2000, &mut |_| {}).is_none());
+    let compared = search(&mut same, SHORT, &mut |what| told.push(what.to_string()));
+    assert!(compared.is_ok_and(|c| c.coverage.lines == 12_000 && c.lines > 100_000));
+    assert!(told.contains(&"generated, seeds 1 to 4: 4 inputs, 12000 lines".to_string()));
+    let mut same = |input: &[u8], _| run_broken(|m, _, d, c| m.call(d, c), input);
+    assert!(search(&mut same, SHORT, &mut |_| {}).is_ok());
 }
 
 #[test]
 fn broken_monitors_are_found() {
     for &(name, answer) in BROKEN {
-        found(name, &mut |input| run_broken(answer, input), 40);
+        found(name, &mut |input, _| run_broken(answer, input), 20);
+    }
+}
+
+/// The generated lines find each of them too, without the written cases and
+/// the sweeps.
+#[test]
+fn generated_lines_find_broken_monitors() {
+    for &(name, answer) in BROKEN {
+        let broken = |seed| {
+            let input = refmonitor::inputs::input(seed, 5000);
+            run_broken(answer, &input).output != run_bytes(&input)
+        };
+        assert!((1..=20).any(broken), "{name}");
     }
 }
 
@@ -614,8 +646,8 @@ type Tamper = fn(&[u8]) -> Vec<u8>;
 type Fault = fn(Vec<u8>) -> Vec<u8>;
 
 /// The program over input that was tampered with.
-fn tampered(tamper: Tamper) -> impl FnMut(&[u8]) -> Ran {
-    move |input| Ran::well(run_bytes(&tamper(input)))
+fn tampered(tamper: Tamper) -> impl FnMut(&[u8], Feed) -> Ran {
+    move |input, _| Ran::well(run_bytes(&tamper(input)))
 }
 
 #[test]
@@ -666,6 +698,67 @@ fn broken_readers_are_found() {
 }
 
 #[test]
+fn faults_at_the_ends_of_pieces_are_found() {
+    let ways: [(&str, Tamper); 3] = [
+        ("a line ends at 64 KiB", |input| {
+            let mut input = input.to_vec();
+            if input.len() > 65_536 && input[65_535] != b'\n' {
+                input.insert(65_536, b'\n');
+            }
+            input
+        }),
+        ("a byte lost at 4 KiB", |input| {
+            let mut input = input.to_vec();
+            if input.len() > 4096 {
+                input.remove(4096);
+            }
+            input
+        }),
+        ("all beyond a MiB dropped", |input| {
+            input[..input.len().min(1 << 20)].to_vec()
+        }),
+    ];
+    for (name, tamper) in ways {
+        // The pieces that matter are long, and so are the runs.
+        found(name, &mut tampered(tamper), 20_000);
+    }
+    let mut other = |input: &[u8], feed| {
+        let end = match feed {
+            Feed::Pieces(size) => input.len().min(size),
+            _ => input.len(),
+        };
+        Ran::well(run_bytes(&input[..end]))
+    };
+    let found = search(&mut other, SHORT, &mut |_| {});
+    let found = found.err().expect("a short read taken as the end");
+    assert_eq!(found[0].feed, Feed::Pieces(1));
+}
+
+#[test]
+fn a_line_for_a_line() {
+    assert!(in_form(b"", b"line,answer,value\n"));
+    assert!(in_form(
+        b"0,GT\nx",
+        b"line,answer,value\n1,0,1,2,0\n2,1,0\n"
+    ));
+    for bad in [
+        "",
+        "line,answer,value\n",
+        "line,answer,value\n1,1,0",
+        "line,answer,value\n1,1,0\n2,1,0\n",
+        "line,answer,value\n0,1,0\n",
+        "line,answer,value\n1,2,0\n",
+        "line,answer,value\n1,1,5\n",
+        "line,answer,value\n1,1\n",
+        "line,answer,value\n1,01,0\n",
+        "line,answer,value\n1,0,18446744073709551616\n",
+        "line,answer,values\n1,1,0\n",
+    ] {
+        assert!(!in_form(b"x", bad.as_bytes()), "{bad}");
+    }
+}
+
+#[test]
 fn output_faults_are_found() {
     let ways: [(&str, Fault); 4] = [
         ("no header", |out| out[18..].to_vec()),
@@ -682,14 +775,14 @@ fn output_faults_are_found() {
         }),
     ];
     for (name, fault) in ways {
-        let mut other = |input: &[u8]| Ran::well(fault(run_bytes(input)));
+        let mut other = |input: &[u8], _| Ran::well(fault(run_bytes(input)));
         found(name, &mut other, 1);
     }
 }
 
 #[test]
 fn a_crash_is_found() {
-    let mut other = |input: &[u8]| {
+    let mut other = |input: &[u8], _| {
         let crash = input.windows(4).any(|w| w == b",LO,");
         Ran {
             output: run_bytes(input),
@@ -702,31 +795,43 @@ fn a_crash_is_found() {
 
 #[test]
 fn compare_as_a_process() {
-    let compare = env!("CARGO_BIN_EXE_compare");
-    let same = Command::new(compare)
-        .args([env!("CARGO_BIN_EXE_reference"), "3", "2000"])
-        .output()
-        .unwrap();
-    let text = String::from_utf8(same.stdout).unwrap();
-    assert_eq!(same.status.code(), Some(0), "{text}");
-    assert!(text.contains("seed 3\n") && text.ends_with("no difference\n"));
+    let compare = |args: &[&str]| {
+        let ran = Command::new(env!("CARGO_BIN_EXE_compare"))
+            .args(args)
+            .output()
+            .unwrap();
+        (ran.status.code(), String::from_utf8(ran.stdout).unwrap())
+    };
+    let reference = env!("CARGO_BIN_EXE_reference");
+    let (status, text) = compare(&[reference]);
+    assert_eq!(status, Some(0), "{text}");
+    assert!(text.contains("generated, seeds 1 to 40: 40 inputs, 200000 lines\n"));
+    assert!(text
+        .lines()
+        .last()
+        .unwrap()
+        .starts_with("no difference in "));
+
+    // Too few lines to reach every answer.
+    let (status, text) = compare(&[reference, "2", "100", "7"]);
+    assert_eq!(status, Some(1), "{text}");
+    assert!(text.contains("generated, seeds 7 to 8: 2 inputs, 200 lines\n"));
+    assert!(text.contains("never reached by the generated lines: CA with answer 11\n"));
 
     // Another program altogether.
-    let other = Command::new(compare)
-        .args([env!("CARGO_BIN_EXE_workload"), "1", "500"])
-        .output()
-        .unwrap();
-    let text = String::from_utf8(other.stdout).unwrap();
-    assert_eq!(other.status.code(), Some(1));
-    assert!(text.contains("input:\n") && text.contains("reference:\n"));
+    let (status, text) = compare(&[env!("CARGO_BIN_EXE_workload")]);
+    assert_eq!(status, Some(1));
+    assert!(text.contains("input, 0 lines:\n") && text.contains("reference:\n"));
 
-    let none = Command::new(compare)
-        .args(["no-such-program", "1", "5"])
-        .output()
-        .unwrap();
-    assert_eq!(none.status.code(), Some(1));
-    let usage = Command::new(compare).output().unwrap();
-    assert_eq!(usage.status.code(), Some(2));
+    assert_eq!(compare(&["no-such-program"]).0, Some(1));
+    for bad in [
+        &[][..],
+        &["x", "0"],
+        &["x", "1", "y"],
+        &["x", "1", "2", "3", "4"],
+    ] {
+        assert_eq!(compare(bad).0, Some(2));
+    }
 }
 
 #[test]
@@ -737,11 +842,13 @@ fn the_programs_run() {
         .unwrap();
     assert_eq!(generated.stdout, refmonitor::inputs::input(5, 300));
     let input = generated.stdout;
-    let ran = refmonitor::compare::run_program(env!("CARGO_BIN_EXE_reference"), &input).unwrap();
-    assert_eq!(ran, Ran::well(run_bytes(&input)));
+    for feed in [Feed::File, Feed::Pipe, Feed::Pieces(100)] {
+        let ran = run_program(env!("CARGO_BIN_EXE_reference"), &input, feed).unwrap();
+        assert_eq!(ran, Ran::well(run_bytes(&input)));
+    }
     let work = Command::new(env!("CARGO_BIN_EXE_workload"))
         .arg("1000")
         .output()
         .unwrap();
-    assert_eq!(work.stdout.split_inclusive(|&b| b == b'\n').count(), 1000);
+    assert_eq!(line_count(&work.stdout), 1000);
 }

@@ -14,10 +14,10 @@ fn calls(input: &[u8]) -> Vec<(u64, Call)> {
 }
 
 #[test]
-fn every_answer_and_situation() {
+fn every_answer_situation_and_bound() {
     let mut coverage = Coverage::new();
-    for seed in 1..=20 {
-        coverage.run(&inputs::input(seed, 10_000));
+    for seed in 1001..=1040 {
+        coverage.run(&inputs::input(seed, 5_000));
     }
     for (letters, answers) in TABLE {
         let counts: Vec<String> = answers
@@ -29,66 +29,24 @@ fn every_answer_and_situation() {
     for &(name, _) in SITUATIONS {
         println!("{:7}  {name}", coverage.situation(name));
     }
+    println!("{}", coverage.summary());
     assert_eq!(coverage.lines, 200_000);
-    assert_eq!(coverage.missing(), []);
+    assert_eq!(coverage.missing(), Vec::<String>::new());
     assert_eq!(coverage.strange(), []);
-    assert_eq!(coverage.missing_situations(), Vec::<&str>::new());
     // Most calls are granted.
     assert!(coverage.done * 100 > coverage.lines * 55);
 }
 
-/// The bounds of each argument come up in each call that has it.
+/// A short run does not reach everything, and that is told.
 #[test]
-fn every_bound() {
-    const TOP: u64 = u64::MAX;
-    let address = [0, 8191, 8192, TOP];
-    let page = [0, 127, 128, TOP];
-    let password = [0, 1, TOP - 1, TOP];
-    let slot = [0, 7, 8, TOP];
-    let arguments: [(&str, &[[u64; 4]]); 14] = [
-        ("BT", &[[0, 1, 1 << 63, TOP]; 4]),
-        ("RD", &[address]),
-        ("WR", &[address, [0, 1, TOP - 1, TOP]]),
-        ("EX", &[address]),
-        ("LK", &[address, [0, 31, 32, TOP]]),
-        ("CR", &[page, [0, 32, 33, TOP], password]),
-        ("DL", &[page]),
-        ("AP", &[page, password, [0, 159, 160, TOP]]),
-        ("DP", &[page, password]),
-        ("RG", &[page, password, page, password, address]),
-        ("IN", &[slot, page, password]),
-        ("RM", &[slot]),
-        ("LO", &[slot]),
-        ("CA", &[address, [0, 1, 2, TOP]]),
-    ];
-    let mut seen = std::collections::HashSet::new();
-    for seed in 1..=20 {
-        for line in inputs::input(seed, 10_000).split(|&b| b == b'\n') {
-            if lines::read(line).is_none() {
-                continue;
-            }
-            let text = std::str::from_utf8(line).unwrap();
-            let fields: Vec<&str> = text.split(',').collect();
-            for (i, field) in fields.iter().enumerate().skip(2) {
-                seen.insert((fields[1].to_string(), i - 2, field.parse::<u64>().unwrap()));
-            }
-            seen.insert((String::new(), 0, fields[0].parse().unwrap()));
-        }
-    }
-    for (letters, bounds) in arguments {
-        for (i, values) in bounds.iter().enumerate() {
-            for &value in values {
-                let wanted = (letters.to_string(), i, value);
-                assert!(seen.contains(&wanted), "{letters} argument {i}: {value}");
-            }
-        }
-    }
-    for value in [254, 255, 256] {
-        assert!(seen.contains(&("LO".to_string(), 0, value)));
-    }
-    for value in [0, 3, 4, TOP] {
-        assert!(seen.contains(&(String::new(), 0, value)));
-    }
+fn what_is_missing_is_told() {
+    let mut coverage = Coverage::new();
+    coverage.run(b"0,BT,11,12,13,14\n0,RD,0\n0,RD,8192\n");
+    let missing = coverage.missing();
+    let told = |what: &str| missing.iter().any(|m| m == what);
+    assert!(!told("RD with answer 0") && told("RD with answer 7"));
+    assert!(!told("RD with number 1 at 8192") && told("RD with number 1 at 8191"));
+    assert!(told("RT from the fourth call"));
 }
 
 #[test]
@@ -265,8 +223,41 @@ fn workload_is_mostly_granted() {
     let lines = output.lines().skip(1);
     let done = lines.filter(|l| l.split(',').nth(1) == Some("0")).count();
     assert_eq!(output.lines().count(), 20_001);
-    assert!(done > 18_500, "{done}");
+    assert!(done > 19_000, "{done}");
     let stage = refmonitor::workload::stage().len();
     let mut staged = output.lines().skip(1).take(stage);
     assert!(staged.all(|l| l.ends_with(",0,0")));
+}
+
+/// The workload's granted accesses are found in Clists of 10 to 60 pairs.
+#[test]
+fn workload_searches_clists_of_10_to_60_pairs() {
+    let mut input = Vec::new();
+    refmonitor::workload::write(20_000, &mut input).unwrap();
+    let stage = refmonitor::workload::stage().len();
+    let mut monitor = Monitor::new();
+    let (mut judged, mut counts) = (0, std::collections::BTreeMap::new());
+    for (i, (domain, call)) in calls(&input).into_iter().enumerate() {
+        let wanted = match call {
+            Call::Rd { address } => Some((address, R)),
+            Call::Wr { address, .. } => Some((address, W)),
+            Call::Lk { address, rights } => Some((address, rights)),
+            Call::Ca { address, .. } => Some((address, P)),
+            _ => None,
+        };
+        if let (Some((address, rights)), true) = (wanted, i >= stage) {
+            judged += 1;
+            let object = monitor.index_at(address).map(|i| &monitor.objects[i]);
+            let pair = object.and_then(|o| monitor.granting_pair(domain as usize, o, rights));
+            if let Some(pair) = pair {
+                let list = &monitor.objects[monitor.index_at(pair).unwrap()];
+                let filled = list.words().step_by(2).filter(|&at| monitor.word(at) != 0);
+                *counts.entry(filled.count()).or_insert(0) += 1;
+            }
+        }
+        drop(monitor.call(domain, &call));
+    }
+    assert_eq!(counts.keys().copied().collect::<Vec<_>>(), [10, 25, 40, 60]);
+    assert!(counts.values().all(|&n| n > 3000), "{counts:?}");
+    assert!(counts.values().sum::<i32>() * 100 > judged * 95);
 }

@@ -15,12 +15,12 @@ read-arguments-spec =
     (λ c. search needs) (λ c. search needs) (λ c. search needs) (λ c κs. search needs) (λ c. search needs)
     (λ c.
     let k = c .before .before .before .before .before .loop .inv in
-    taking-bad k (c .before .before .before .before .loop-test .taken) (c .before .before .before .field-end .ensures .0) (rw (← c .before .number .ensures) (no-number (c .before .number .result) (c .match .keys2))))
+    taking-bad k (c .before .before .before .before .loop-test .taken) (c .before .before .before .find .ensures .0) (rw (← c .before .number .ensures) (no-number (c .before .number .result) (c .match .keys2))))
     (λ c κs. omega (arith, taking-few (c .before .before .before .before .before .before .before .loop .inv)))
     (λ c. search needs)
     (λ c.
     let k = c .before .before .before .before .before .before .before .before .loop .inv in
-    let e = c .before .before .before .before .before .before .field-end .ensures in
-    taking-more k (c .before .before .before .before .before .before .before .loop-test .taken) (e .0) (e .2) (sym (c .before .before .v .given .1) ∙ c .before .before .before .before .number .ensures) (c .with-number .ensures))
+    let e = c .before .before .before .before .before .before .find .ensures in
+    taking-more k (c .before .before .before .before .before .before .before .loop-test .taken) (e .0) (omega (arith, e .2)) (sym (c .before .before .v .given .1) ∙ c .before .before .before .before .number .ensures) (c .with-number .ensures))
     (λ c κs. search needs)
     (λ c. rw (c .eight-of .ensures) (taking-all (c .before .before .before .loop .inv) (c .before .before .loop-test .left))))

@@ -1,37 +1,61 @@
-//! `compare PROGRAM [SEEDS] [LINES]`: another program against this one.
+//! `compare PROGRAM [SEEDS] [LINES] [FIRST]`: another program against this
+//! one. Status 1 for a difference, and where the generated lines did not reach
+//! all that they should.
 
-use refmonitor::compare::{self, Ran};
+use refmonitor::compare::{self, Plan, Ran};
 use std::process::ExitCode;
+use std::time::Duration;
+
+/// How long differing inputs are shortened, at most.
+const SHRINKING: Duration = Duration::from_secs(40);
 
 fn main() -> ExitCode {
     let args: Vec<String> = std::env::args().skip(1).collect();
-    let numbers: Vec<Option<u64>> = args.iter().skip(1).map(|a| a.parse().ok()).collect();
-    let (seeds, lines) = match numbers[..] {
-        [] => (20, 5000),
-        [Some(seeds)] => (seeds, 5000),
-        [Some(seeds), Some(lines)] => (seeds, lines),
-        _ => (0, 0),
+    let numbers: Option<Vec<u64>> = args.iter().skip(1).map(|a| a.parse().ok()).collect();
+    let number = |i: usize, default| match &numbers {
+        Some(numbers) => numbers.get(i).copied().unwrap_or(default),
+        None => 0,
     };
-    let (Some(program), true) = (args.first(), lines > 0) else {
-        eprintln!("usage: compare PROGRAM [SEEDS] [LINES]");
+    let plan = Plan {
+        seeds: number(0, 40),
+        lines: number(1, 5000),
+        first: number(2, 1),
+    };
+    let all = plan.seeds > 0 && plan.lines > 0 && plan.first > 0 && args.len() < 5;
+    let (Some(program), true) = (args.first(), all) else {
+        eprintln!("usage: compare PROGRAM [SEEDS] [LINES] [FIRST]");
         return ExitCode::from(2);
     };
-    let mut run = |input: &[u8]| {
-        compare::run_program(program, input).unwrap_or_else(|e| Ran {
+    let mut run = |input: &[u8], feed| {
+        compare::run_program(program, input, feed).unwrap_or_else(|e| Ran {
             output: Vec::new(),
             trouble: Some(e.to_string()),
         })
     };
     let mut tell = |what: &str| println!("{what}");
-    match compare::search(&mut run, seeds, lines, &mut tell) {
-        None => {
-            println!("no difference");
-            ExitCode::SUCCESS
+    let compared = match compare::search(&mut run, plan, &mut tell) {
+        Ok(compared) => compared,
+        Err(found) => {
+            println!("looking for the shortest run that shows it");
+            if let Some(difference) = compare::shortest(&mut run, found, SHRINKING) {
+                print!("{}", compare::report(&difference));
+            }
+            return ExitCode::FAILURE;
         }
-        Some(found) => {
-            println!("a difference; shrinking");
-            print!("{}", compare::report(&compare::shrink(&mut run, found)));
-            ExitCode::FAILURE
-        }
+    };
+    let coverage = compared.coverage;
+    let (missing, strange) = (coverage.missing(), coverage.strange());
+    for what in &missing {
+        println!("never reached by the generated lines: {what}");
+    }
+    for (letters, answer) in &strange {
+        println!("not in the table of answers: {letters} with answer {answer}");
+    }
+    if missing.is_empty() && strange.is_empty() {
+        println!("reached: {}", coverage.summary());
+        println!("no difference in {} lines", compared.lines);
+        ExitCode::SUCCESS
+    } else {
+        ExitCode::FAILURE
     }
 }

@@ -1,0 +1,29 @@
+use Prim.Native.Nat.{_-_, _<_, _≤_}
+use mathlib.Core.Path.{_≡_, refl}
+use native.Mathlib.Omega.{arith}
+use lib.ListN.{length, take, drop, length-take, length-drop}
+use Rattle.stream.specs.Told.{feed-moves}
+use borrow.Author.Needs.{needs}
+use Rattle.monitor.proofs.answer_piece.Statement.{statement}
+use Rattle.monitor.proofs.answer_piece.Tie as tie
+
+pub answer-piece-spec : {M : Type 1} → statement M
+answer-piece-spec =
+    tie.close
+    (tie.spec (λ store₀ piece out₀ g₀ from₀ store out g from. (length out ≡ 65536) × (length store ≡ length store₀) × (length out ≡ length out₀) × (from ≤ length piece))
+    (λ store₀ piece out₀ g₀ from₀ store out g from. length piece - from)
+    (λ c. search needs) (λ c. search needs) (λ c. search needs) (λ c. search needs) (λ c κs. search needs) (λ c. search needs) (λ c. simp length-take (omega arith)) (λ c κs. search needs) (λ c. search needs) (λ c. search needs) (λ c. search needs)
+    (λ c.
+    let few = simp (length-take, length-drop) at (c .before .before .before .before .before .before .before .before .feed-piece .ensures .1 .0) in
+    omega (arith, few))
+    (λ c.
+    let few = simp (length-take, length-drop) at (c .before .before .before .before .before .before .before .before .feed-piece .ensures .1 .0) in
+    let p = c .before .before .before .before .before .before .before .before .before .before .before .before .before .before .before .before .before .args .piece .now in
+    let o = c .before .before .before .before .before .before .before .before .before .before .before .before .before .loop in
+    let some : 0 < length (take (length p - o .from) (drop (o .from) p)) = simp (length-take, length-drop) (omega (arith, c .before .before .before .before .before .before .before .before .before .before .before .before .loop-test .taken)) in
+    let q = c .before .before .before .before .before .before .before .before .feed-piece .ensures in
+    omega (arith, few, feed-moves _ _ (length (o .out)) (c .before .before .before .before .before .before .before .before .feed-piece .result) _ _ refl (omega (arith, o .inv .0)) some (q .0) (omega (arith, c .before .before .before .before .before .before .before .before .feed-piece .kept .1 .1 .1 .0)) (q .1 .2) (q .1 .1)))
+    (λ c.
+    let few = simp (length-take, length-drop) at (c .before .before .before .before .before .before .before .before .feed-piece .ensures .1 .0) in
+    (omega (arith, c .before .before .before .before .before .before .before .before .feed-piece .kept .1 .1 .1 .0), omega (arith, c .before .before .before .before .before .before .before .before .feed-piece .kept .1 .0), omega (arith, c .before .before .before .before .before .before .before .before .feed-piece .kept .1 .1 .1 .0), omega (arith, few)))
+    (λ c. search needs) (λ c. search needs) (λ c. search needs))

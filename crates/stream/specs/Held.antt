@@ -1,0 +1,95 @@
+-- The program holds the first 201 bytes of a line: enough to tell that it is too long.
+use Prim.Native.Nat.{ℕ, _+_, _<_, _≤_}
+use mathlib.Core.Path.{_≡_, refl, _∙_, sym, ap}
+use mathlib.Core.Bool.{Bool, true, false, cond}
+use mathlib.Core.List.{List, [], _∷_, _++_, foldl}
+use native.Mathlib.Omega.{arith}
+use native.Mathlib.Numerals.{add-one}
+use lib.Dec.{ltb, eqb}
+use lib.ListN.{length, take, set, length-append, length-take}
+use lib.Seq.{take-all, take-append-le, take-suc-set, length-take-le}
+use borrow.Author.Tests.{lt-ltb, le-ltb, ltb-true, ltb-false, eq-eqb, ne-eqb, eqb-true, eqb-false}
+use Rattle.lines.specs.Grammar.{lineOf}
+use Rattle.stream.specs.Run.{Carrying, Run, reply, lineDone, withLine, onByteBy, extended, lastLine}
+
+-- one byte more, 201 at most
+abbrev pub heldByte : List ℕ → ℕ → List ℕ
+heldByte line b = cond (ltb (length line) 201) (line ++ (b ∷ [])) line
+
+abbrev pub onHeld : Carrying → Run → ℕ → Run
+onHeld carry = onByteBy carry heldByte
+
+-- a run with the first 201 bytes of its line
+abbrev pub cut : Run → Run
+cut r = withLine r (take 201 (r .line))
+
+-- a line reads as its first 201 bytes do
+pub cut-reads : (s : List ℕ) → lineOf (take 201 s) ≡ lineOf s
+unfolding lineOf
+cut-reads s = go (ltb (length s) 202) refl
+  where
+    go : (b : Bool) → ltb (length s) 202 ≡ b → lineOf (take 201 s) ≡ lineOf s
+    go true e = let l : length s < 202 = ltb-true _ _ e in ap lineOf (take-all 201 s (omega arith))
+    go false e =
+        let l : 202 ≤ length s = ltb-false _ _ e in
+        let n : 200 < length (take 201 s) = omega (arith, length-take 201 s) in
+        let m : 200 < length s = omega arith in
+        rw (lt-ltb 200 (length (take 201 s)) n, lt-ltb 200 (length s) m)
+
+-- holding is cutting
+pub held-cut : (s : List ℕ) (b : ℕ) → heldByte (take 201 s) b ≡ take 201 (extended s b)
+held-cut s b = go (ltb (length s) 201) refl
+  where
+    go : (t : Bool) → ltb (length s) 201 ≡ t → heldByte (take 201 s) b ≡ take 201 (extended s b)
+    go true e =
+        let l : length s < 201 = ltb-true _ _ e in
+        let k : length (s ++ (b ∷ [])) ≤ 201 = omega (arith, length-append s (b ∷ [])) in
+        rw (take-all 201 s (omega arith), take-all 201 (s ++ (b ∷ [])) k, lt-ltb (length s) 201 l)
+    go false e =
+        let l : 201 ≤ length s = ltb-false _ _ e in
+        let k : length (take 201 s) ≡ 201 = length-take-le 201 s l in
+        rw (k, take-append-le 201 s (b ∷ []) l)
+
+module _ (carry : Carrying) where
+  pub cut-byte : (r : Run) (b : ℕ) → onHeld carry (cut r) b ≡ cut (onByteBy carry extended r b)
+  unfolding onByteBy
+  cut-byte r b = go (eqb b 10)
+    where
+      go : (t : Bool)
+          → cond t (lineDone (cut r) (reply carry (r .world) (lineOf (take 201 (r .line))))) (withLine r (heldByte (take 201 (r .line)) b))
+          ≡ cut (cond t (lineDone r (reply carry (r .world) (lineOf (r .line)))) (withLine r (extended (r .line) b)))
+      go true = rw (cut-reads (r .line))
+      go false = ap (withLine r) (held-cut (r .line) b)
+
+  pub cut-run : (s : List ℕ) (r : Run) → foldl (onHeld carry) (cut r) s ≡ cut (foldl (onByteBy carry extended) r s)
+  cut-run [] r = refl
+  cut-run (b ∷ s) r = ap (λ (z : Run). foldl (onHeld carry) z s) (cut-byte r b) ∙ cut-run s (onByteBy carry extended r b)
+
+-- whether a line has begun is seen in what is held
+cut-empty : (s : List ℕ) → eqb (length (take 201 s)) 0 ≡ eqb (length s) 0
+cut-empty s = go (eqb (length s) 0) refl
+  where
+    go : (t : Bool) → eqb (length s) 0 ≡ t → eqb (length (take 201 s)) 0 ≡ t
+    go true e =
+        let z : length s ≡ 0 = eqb-true _ _ e in
+        let n : length (take 201 s) ≡ 0 = omega (arith, length-take 201 s) in
+        eq-eqb _ _ n
+    go false e =
+        let z : length s ≡ 0 → ⊥ = eqb-false _ _ e in
+        ne-eqb (length (take 201 s)) 0 (λ n. z (omega (arith, n, length-take 201 s)))
+
+pub cut-last : (r : Run) → lastLine (cut r) ≡ lastLine r
+unfolding lastLine
+cut-last r = rw (cut-empty (r .line))
+
+-- how the hold takes a byte
+pub held-put : (line : List ℕ) (n b : ℕ) → n < 201 → length line ≡ 201 → take (n + 1) (set line n b) ≡ heldByte (take n line) b
+held-put line n b h l =
+    let w : length (take n line) ≡ n = length-take-le n line (omega arith) in
+    let z : n < length line = omega arith in
+    rw (w, lt-ltb n 201 h, add-one, take-suc-set line n b z)
+
+pub held-full : (line : List ℕ) (n b : ℕ) → n ≤ 201 → 201 ≤ n → length line ≡ 201 → take n line ≡ heldByte (take n line) b
+held-full line n b h g l =
+    let w : length (take n line) ≡ n = length-take-le n line (omega arith) in
+    rw (w, le-ltb n 201 g)

@@ -1,0 +1,108 @@
+-- What the call program writes for an input: document 01, "The call program".
+use Prim.Native.Nat.{ℕ, _+_}
+use mathlib.Core.Bool.{Bool, cond}
+use mathlib.Core.List.{List, [], _∷_, _++_, foldl}
+use lib.Dec.{ltb, eqb}
+use lib.ListN.{length, replicate}
+use Rattle.state.specs.Places.{emptyState}
+use Rattle.state.specs.declared.State.{State}
+use Rattle.calls.specs.Answers.{numberOf, valuesOf}
+use Rattle.calls.specs.View.{World}
+use Rattle.calls.specs.Step.{Result, world, worldOf, step}
+use Rattle.calls.specs.Boot.{boot}
+use Rattle.calls.specs.declared.Call.{Call as Asked}
+use Rattle.calls.specs.declared.Answer.{Answer}
+use Rattle.calls.specs.declared.Answer.the-variants.{Done, Refused}
+use Rattle.lines.specs.Grammar.{lineOf}
+use Rattle.lines.specs.declared.Line.{Line}
+use Rattle.lines.specs.declared.Line.the-variants.{Unreadable, Boot, Call}
+use Rattle.lines.specs.declared.Homes.{Homes}
+use Rattle.text.specs.Answer.{answerLine}
+
+-- what a line is answered with: a number, what stands behind it, and the state and store after it
+pub record Reply : Type 0 where
+  pub number : ℕ
+  pub values : List ℕ
+  pub world : World
+
+-- how a call is carried out: `step`, or `checked` where the state is known to be sound
+abbrev pub Carrying : Type 0
+Carrying = World → ℕ → Asked → Result
+
+-- "1. The program alone: the line is not readable."
+abbrev pub unread : World → Reply
+unread w = record { number = 1; values = 0 ∷ []; world = w }
+
+abbrev pub called : Result → Reply
+called r = record { number = numberOf (r .outcome .answer); values = valuesOf (r .outcome); world = worldOf r }
+
+-- a BT that is refused keeps the state that the program had
+abbrev pub stateAfter : State → Answer → State → State
+stateAfter old (Done value) new = new
+stateAfter old (Refused why) new = old
+
+abbrev pub bootedFrom : World → Result → Reply
+bootedFrom w r =
+    record {
+      number = numberOf (r .outcome .answer);
+      values = valuesOf (r .outcome);
+      world = world (stateAfter (w .state) (r .outcome .answer) (r .outcome .state)) (r .words);
+    }
+
+abbrev pub homesOf : Homes → List ℕ
+homesOf h = h .first ∷ h .second ∷ h .third ∷ h .fourth ∷ []
+
+unfoldable pub reply : Carrying → World → Line → Reply
+reply carry w Unreadable = unread w
+reply carry w (Boot d homes) = bootedFrom w (boot (w .words) d (homesOf homes))
+reply carry w (Call d c) = called (carry w d c)
+
+-- the program between two bytes: the number of the line that it reads, the bytes of that line so far, and what it wrote
+pub record Run : Type 0 where
+  pub world : World
+  pub number : ℕ
+  pub line : List ℕ
+  pub text : List ℕ
+
+-- "its number from 1"; a line past the last number of 64 bits has that number
+abbrev pub nextNumber : ℕ → ℕ
+nextNumber n = cond (ltb n 18446744073709551615) (n + 1) n
+
+-- a line is answered, and the next one begins
+abbrev pub lineDone : Run → Reply → Run
+lineDone r a =
+    record {
+      world = a .world;
+      number = nextNumber (r .number);
+      line = [];
+      text = r .text ++ answerLine (r .number) (a .number) (a .values);
+    }
+
+abbrev pub withLine : Run → List ℕ → Run
+withLine r line = record { world = r .world; number = r .number; line = line; text = r .text }
+
+-- a byte of the input: a line feed ends the line, any other byte is `more` of it
+unfoldable pub onByteBy : Carrying → (List ℕ → ℕ → List ℕ) → Run → ℕ → Run
+onByteBy carry more r b = cond (eqb b 10) (lineDone r (reply carry (r .world) (lineOf (r .line)))) (withLine r (more (r .line) b))
+
+abbrev pub extended : List ℕ → ℕ → List ℕ
+extended line b = line ++ (b ∷ [])
+
+abbrev pub onByte : Run → ℕ → Run
+onByte = onByteBy step extended
+
+-- line,answer,value and the line feed
+abbrev pub header : List ℕ
+header = 108 ∷ 105 ∷ 110 ∷ 101 ∷ 44 ∷ 97 ∷ 110 ∷ 115 ∷ 119 ∷ 101 ∷ 114 ∷ 44 ∷ 118 ∷ 97 ∷ 108 ∷ 117 ∷ 101 ∷ 10 ∷ []
+
+-- "Before the first BT the state has no objects."; "The output is the header, then .."
+unfoldable pub started : Run
+started = record { world = world emptyState (replicate 8192 0); number = 1; line = []; text = header }
+
+-- what is written behind the last line feed: "a last line without its line feed is unreadable"
+unfoldable pub lastLine : Run → List ℕ
+lastLine r = cond (eqb (length (r .line)) 0) [] (answerLine (r .number) 1 (0 ∷ []))
+
+-- WHAT THE PROGRAM WRITES
+unfoldable pub output : List ℕ → List ℕ
+output input = foldl onByte started input .text ++ lastLine (foldl onByte started input)

@@ -1,0 +1,262 @@
+-- How a line that is answered and printed takes the run on.
+use Prim.Native.Nat.{ℕ, zero, suc, _+_, _-_, _*_, _≤_, _<_, min}
+use mathlib.Core.Path.{_≡_, refl, _∙_, sym, ap}
+use mathlib.Core.Bool.{Bool, true, false, not, cond, _&&_, true≢false}
+use mathlib.Core.List.{List, [], _∷_, _++_, foldl, append-nil}
+use mathlib.Core.Option.{Option, none, some}
+use native.Mathlib.Omega.{arith}
+use lib.Dec.{leb, ltb, eqb}
+use lib.ListN.{length, take, replicate, length-take}
+use lib.Seq.{take-all}
+use borrow.Author.Tests.{le-leb, lt-leb, leb-true, leb-false, ltb-true, ltb-false, eq-eqb, ne-eqb, eqb-true, eqb-false}
+use Rattle.bounded.specs.Bools.{and-left, and-right, or-left, or-unless}
+use Rattle.state.specs.declared.State.{State}
+use Rattle.calls.specs.Answers.{numberOf, valueOf}
+use Rattle.calls.specs.View.{World, Judging, View, view, firstFailing}
+use Rattle.calls.specs.Checks.{checks}
+use Rattle.calls.specs.Changes.{frameFields, fields}
+use Rattle.calls.specs.Step.{Result, world, result, concluded, storeCheck, checkedBy, checked}
+use Rattle.calls.specs.Boot.{boot, booted}
+use Rattle.calls.specs.Laws.Booted.{bootChecks}
+use Rattle.calls.specs.declared.Call.{Call as Asked}
+use Rattle.calls.specs.declared.Call.the-variants.{Read, Write, Execute, Lookup, Create, Delete, AddPassword, DropPassword, Register, Insert, Remove, Get, Lock, PdxCall, PdxReturn}
+use Rattle.calls.specs.declared.Answer.{Answer}
+use Rattle.calls.specs.declared.Fields.{Fields}
+use Rattle.calls.specs.declared.Outcome.{Outcome}
+use Rattle.calls.specs.declared.Refusal.{Refusal}
+use Rattle.lines.specs.declared.Homes.{Homes}
+use Rattle.lines.specs.declared.Line.{Line}
+use Rattle.lines.specs.declared.Line.the-variants.{Unreadable, Boot, Call}
+use Rattle.text.specs.Answer.{answerLine, printed, printedEnd, valuesFrom}
+use Rattle.text.specs.Size.{up-to-end, answer-length}
+use Rattle.stream.specs.Run.{Carrying, Reply, Run, called, reply, stateAfter, homesOf, nextNumber, lineDone, started, lastLine}
+use Rattle.stream.specs.Feed.{startFeed, runAt, runOf, finishedText, finishedEnd, roomFor, stopped, otherReply}
+use Rattle.stream.specs.Held.{onHeld}
+use Rattle.stream.specs.Pieces.{flushed}
+use Rattle.stream.specs.declared.Feed.{Feed}
+
+pub room-short : (length at : ℕ) → length < 273 → false ≡ roomFor length at
+room-short length at h =
+    let l : length < at + 273 = omega arith in
+    rw (lt-leb (at + 273) length l)
+
+pub room-long : (length at : ℕ) → 273 ≤ length → leb at (length - 273) ≡ roomFor length at
+room-long length at h = go (leb (at + 273) length) refl
+  where
+    go : (b : Bool) → leb (at + 273) length ≡ b → leb at (length - 273) ≡ b
+    go true e =
+        let l : at + 273 ≤ length = leb-true _ _ e in
+        let k : at ≤ length - 273 = omega arith in
+        le-leb at (length - 273) k
+    go false e =
+        let l : length < at + 273 = leb-false _ _ e in
+        let k : length - 273 < at = omega arith in
+        lt-leb at (length - 273) k
+
+-- an answer printed where there is room for the longest: the text goes on by it
+pub told-text : (out : List ℕ) (at number answer : ℕ) (vs : List ℕ) {out′ : List ℕ} {at′ : ℕ} → at + 273 ≤ length out → length vs ≤ 11
+    → out′ ≡ printed out at number answer vs → at′ ≡ printedEnd out at number answer vs → take at′ out′ ≡ take at out ++ answerLine number answer vs
+told-text out at number answer vs {out′} {at′} h l p e =
+    let k : at + (42 + 21 * length vs) ≤ length out = omega arith in
+    let z : at ≤ length out = omega arith in
+    rw (p, e, le-leb (at + (42 + 21 * length vs)) (length out) k) (up-to-end out at (answerLine number answer vs) z)
+
+told-end : (out : List ℕ) (at number answer : ℕ) (vs : List ℕ) {at′ : ℕ} → at + 273 ≤ length out → length vs ≤ 11 → at′ ≡ printedEnd out at number answer vs → at′ ≤ length out
+told-end out at number answer vs {at′} h l e =
+    let k : at + (42 + 21 * length vs) ≤ length out = omega arith in
+    let z : at′ ≡ at + length (answerLine number answer vs) = rw (e, le-leb (at + (42 + 21 * length vs)) (length out) k) in
+    omega (arith, answer-length number answer vs)
+
+-- an answer has at most eleven values
+pub values-few : (a : Answer) (f : Fields) → length (f .values) ≡ 11 → length (valuesFrom a f) ≤ 11
+values-few a f h = go (eqb (f .count) 0)
+  where
+    go : (b : Bool) → length (cond b (valueOf a ∷ []) (take (f .count) (f .values))) ≤ 11
+    go true = omega arith
+    go false = omega (arith, length-take (f .count) (f .values))
+
+abbrev pub isCall : Line → Bool
+isCall Unreadable = false
+isCall (Boot d homes) = false
+isCall (Call d c) = true
+
+abbrev pub isBoot : Line → Bool
+isBoot Unreadable = false
+isBoot (Boot d homes) = true
+isBoot (Call d c) = false
+
+-- a line that is no boot, printed
+pub unread-told : (s : State) (words out : List ℕ) (at n : ℕ) (reading : Line) {out′ : List ℕ} {at′ : ℕ} → isBoot reading ≡ false → at + 273 ≤ length out
+    → out′ ≡ printed out at n 1 (0 ∷ []) → at′ ≡ printedEnd out at n 1 (0 ∷ [])
+    → (take at′ out′ ≡ take at out ++ answerLine n (otherReply (world s words) reading .number) (otherReply (world s words) reading .values))
+    × (world s words ≡ otherReply (world s words) reading .world)
+    × (at′ ≤ length out)
+unread-told s words out at n Unreadable b h p q = (told-text out at n 1 (0 ∷ []) h (omega arith) p q, refl, told-end out at n 1 (0 ∷ []) h (omega arith) q)
+unread-told s words out at n (Boot d homes) b h p q = absurd (true≢false b)
+unread-told s words out at n (Call d c) b h p q = (told-text out at n 1 (0 ∷ []) h (omega arith) p q, refl, told-end out at n 1 (0 ∷ []) h (omega arith) q)
+
+boot-fields : (words : List ℕ) (d : ℕ) (homes : List ℕ) → length (boot words d homes .outcome .fields .values) ≡ 11
+unfolding boot
+boot-fields words d homes = go (firstFailing (bootChecks words d homes))
+  where
+    go : (o : Option Refusal) → length (booted homes words o .outcome .fields .values) ≡ 11
+    go none = refl
+    go (some r) = refl
+
+-- a boot, printed
+pub boot-told : (s : State) (words : List ℕ) (d : ℕ) (homes : Homes) (out : List ℕ) (at n : ℕ) {reading : Line} {o : Outcome} {words′ out′ : List ℕ} {at′ : ℕ} {after : State} → reading ≡ Boot d homes
+    → result o words′ ≡ boot words d (homesOf homes) → at + 273 ≤ length out → out′ ≡ printed out at n (numberOf (o .answer)) (valuesFrom (o .answer) (o .fields))
+    → at′ ≡ printedEnd out at n (numberOf (o .answer)) (valuesFrom (o .answer) (o .fields))
+    → stateAfter s (o .answer) (o .state) ≡ after
+    → (take at′ out′ ≡ take at out ++ answerLine n (otherReply (world s words) reading .number) (otherReply (world s words) reading .values))
+    × (world after words′ ≡ otherReply (world s words) reading .world)
+    × (at′ ≤ length out)
+boot-told s words d homes out at n {reading} {o} {words′} {out′} {at′} {after} g e h p q k =
+    let f : length (o .fields .values) ≡ 11 = ap (λ (z : Result). length (z .outcome .fields .values)) e ∙ boot-fields words d (homesOf homes) in
+    let v = values-few (o .answer) (o .fields) f in
+    rw (g, ← e)
+    (told-text out at n (numberOf (o .answer)) (valuesFrom (o .answer) (o .fields)) h v p q, ap (λ (z : State). world z words′) (sym k), told-end out at n (numberOf (o .answer)) (valuesFrom (o .answer) (o .fields)) h v q)
+
+-- every answer has eleven places for fields
+fields-long : (c : Asked) (v : View) → length (fields c v .values) ≡ 11
+unfolding frameFields
+fields-long (Read a) v = refl
+fields-long (Write a x) v = refl
+fields-long (Execute a) v = refl
+fields-long (Lookup a r) v = refl
+fields-long (Create p n k) v = refl
+fields-long (Delete b) v = refl
+fields-long (AddPassword b k m) v = refl
+fields-long (DropPassword b k) v = refl
+fields-long (Register b k l es) v = refl
+fields-long (Insert i l) v = refl
+fields-long (Remove i) v = refl
+fields-long Get v = refl
+fields-long (Lock i) v = refl
+fields-long (PdxCall a ch) v = refl
+fields-long PdxReturn v = refl
+
+call-fields : (judging : Judging) (w : World) (d : ℕ) (c : Asked) → length (checkedBy judging w d c .outcome .fields .values) ≡ 11
+unfolding checkedBy
+call-fields judging w d c = go (firstFailing (storeCheck w ∷ checks d c (view judging w d c)))
+  where
+    go : (o : Option Refusal) → length (concluded o w d c (view judging w d c) .outcome .fields .values) ≡ 11
+    go none = fields-long c (view judging w d c)
+    go (some r) = refl
+
+-- a call, printed
+pub call-told : (s : State) (words out : List ℕ) (at n d : ℕ) (c : Asked) {o : Outcome} {words′ out′ : List ℕ} {at′ : ℕ}
+    → result o words′ ≡ checked (world s words) d c → at + 273 ≤ length out
+    → out′ ≡ printed out at n (numberOf (o .answer)) (valuesFrom (o .answer) (o .fields))
+    → at′ ≡ printedEnd out at n (numberOf (o .answer)) (valuesFrom (o .answer) (o .fields))
+    → (take at′ out′ ≡ take at out ++ answerLine n (called (checked (world s words) d c) .number) (called (checked (world s words) d c) .values))
+    × (world (o .state) words′ ≡ called (checked (world s words) d c) .world)
+    × (at′ ≤ length out)
+call-told s words out at n d c {o} {words′} {out′} {at′} e h p q =
+    let f : length (o .fields .values) ≡ 11 = ap (λ (z : Result). length (z .outcome .fields .values)) e ∙ call-fields _ (world s words) d c in
+    let v = values-few (o .answer) (o .fields) f in
+    rw (← e)
+    (told-text out at n (numberOf (o .answer)) (valuesFrom (o .answer) (o .fields)) h v p q, refl, told-end out at n (numberOf (o .answer)) (valuesFrom (o .answer) (o .fields)) h v q)
+
+-- a line that is no call is answered so
+pub reply-other : (carry : Carrying) (w : World) (l : Line) → isCall l ≡ false → reply carry w l ≡ otherReply w l
+unfolding reply
+reply-other carry w Unreadable e = refl
+reply-other carry w (Boot d homes) e = refl
+reply-other carry w (Call d c) e = absurd (true≢false e)
+
+pub reply-call : (carry : Carrying) (w : World) (d : ℕ) (c : Asked) {l : Line} → l ≡ Call d c → reply carry w l ≡ called (carry w d c)
+unfolding reply
+reply-call carry w d c e = rw e
+
+-- past the end of a list nothing more is taken
+pub take-clip : (s : List ℕ) (n : ℕ) → take (min n (length s)) s ≡ take n s
+take-clip s n = go (leb n (length s)) refl
+  where
+    go : (b : Bool) → leb n (length s) ≡ b → take (min n (length s)) s ≡ take n s
+    go true e =
+        let l : n ≤ length s = leb-true _ _ e in
+        let m : min n (length s) ≡ n = omega arith in
+        rw m
+    go false e =
+        let l : length s < n = leb-false _ _ e in
+        let m : min n (length s) ≡ length s = omega arith in
+        rw m (take-all (length s) s (omega arith) ∙ sym (take-all n s (omega arith)))
+
+-- the program starts as the run does, with the header written
+pub start-run : (out : List ℕ) → runOf startFeed (replicate 8192 0) out ≡ flushed started
+unfolding started
+start-run out = refl
+
+-- and writes the last line as the run does
+pub finish-writes : (f : Feed) (words out : List ℕ) → length (f .line) ≡ 201 → 273 ≤ length out
+    → take (finishedEnd f out) (finishedText f out) ≡ lastLine (runOf f words out)
+unfolding lastLine
+finish-writes f words out l h = go (eqb (f .held) 0) refl
+  where
+    go : (b : Bool) → eqb (f .held) 0 ≡ b
+        → take (cond b 0 (printedEnd out 0 (f .number) 1 (0 ∷ []))) (cond b out (printed out 0 (f .number) 1 (0 ∷ [])))
+        ≡ cond (eqb (length (take (f .held) (f .line))) 0) [] (answerLine (f .number) 1 (0 ∷ []))
+    go true e =
+        let z : f .held ≡ 0 = eqb-true _ _ e in
+        let n : length (take (f .held) (f .line)) ≡ 0 = omega (arith, length-take (f .held) (f .line)) in
+        rw (eq-eqb _ _ n)
+    go false e =
+        let z : f .held ≡ 0 → ⊥ = eqb-false _ _ e in
+        let n : length (take (f .held) (f .line)) ≡ 0 → ⊥ = (λ m. z (omega (arith, m, length-take (f .held) (f .line)))) in
+        rw (ne-eqb _ _ n) (told-text out 0 (f .number) 1 (0 ∷ []) h (omega arith) refl refl)
+
+-- it ends in the buffer
+pub printed-within : (out : List ℕ) (number answer : ℕ) (vs : List ℕ) → printedEnd out 0 number answer vs ≤ length out
+printed-within out number answer vs = go (leb (0 + (42 + 21 * length vs)) (length out)) refl
+  where
+    go : (b : Bool) → leb (0 + (42 + 21 * length vs)) (length out) ≡ b → cond b (0 + length (answerLine number answer vs)) 0 ≤ length out
+    go true e =
+        let l : 0 + (42 + 21 * length vs) ≤ length out = leb-true _ _ e in
+        omega (arith, answer-length number answer vs)
+    go false e = omega arith
+
+-- what is held and what is written, clipped to their room, is what they were
+pub clip-run : (s : State) (words : List ℕ) (number : ℕ) (line : List ℕ) (held : ℕ) (out : List ℕ) (at : ℕ) {held′ at′ : ℕ} → length line ≡ 201 → held′ ≡ min held 201 → at′ ≡ min at (length out)
+    → runAt s words number line held′ out at′ ≡ runAt s words number line held out at
+clip-run s words number line held out at {held′} {at′} l h a =
+    let e : take held′ line ≡ take held line = rw (h, ← l) (take-clip line held) in
+    let g : take at′ out ≡ take at out = rw a (take-clip out at) in
+    rw (e, g)
+
+-- why the program stops
+pub stopped-at : (piece out taken at : ℕ) (room : Bool) → taken ≤ piece → room ≡ roomFor out at → (ltb taken piece && room) ≡ false → stopped piece out taken at ≡ true
+stopped-at piece out taken at room h e f = go (ltb taken piece) refl f
+  where
+    go : (b : Bool) → ltb taken piece ≡ b → (b && room) ≡ false → stopped piece out taken at ≡ true
+    go true l r = or-unless (eqb taken piece) (not (roomFor out at)) (λ z. rw (← e, r))
+    go false l r =
+        let k : piece ≤ taken = ltb-false _ _ l in
+        let n : taken ≡ piece = omega arith in
+        or-left (eqb taken piece) (not (roomFor out at)) (eq-eqb _ _ n)
+
+pub shorter : {end n : ℕ} → (end ≡ n → ⊥) → end ≤ n → end < n
+shorter e h = omega (arith, e)
+
+-- what the loop's test tells
+pub still-more : (from piece : ℕ) (room : Bool) → (ltb from piece && room) ≡ true → from < piece
+still-more from piece room h = ltb-true from piece (and-left (ltb from piece) room h)
+
+pub still-room : (from piece out at : ℕ) (room : Bool) → (ltb from piece && room) ≡ true → room ≡ roomFor out at → at + 273 ≤ out
+still-room from piece out at room h e = leb-true (at + 273) out (sym e ∙ and-right (ltb from piece) room h)
+
+-- with an empty buffer of room enough, some of a piece is taken
+pub feed-moves : (before : Run) (piece : List ℕ) (size : ℕ) (r : Feed) (words out : List ℕ) → before .text ≡ [] → 273 ≤ size → 0 < length piece
+    → runOf r words out ≡ foldl (onHeld checked) before (take (r .taken) piece) → length out ≡ size → r .at ≤ size
+    → stopped (length piece) size (r .taken) (r .at) ≡ true → 0 < r .taken
+feed-moves before piece size r words out z h l e k b s = go (r .taken) refl
+  where
+    go : (n : ℕ) → r .taken ≡ n → 0 < r .taken
+    go zero t =
+        let x : take (r .at) out ≡ before .text = rw t at (ap (λ (y : Run). y .text) e) in
+        let y : length (take (r .at) out) ≡ 0 = ap length (x ∙ z) in
+        let m : r .at ≡ 0 = omega (arith, y, length-take (r .at) out) in
+        let g : roomFor size (r .at) ≡ true = rw m (le-leb 273 size h) in
+        let n : eqb (r .taken) (length piece) ≡ false = rw t (ne-eqb 0 (length piece) (λ w. omega (arith, w))) in
+        absurd (true≢false (sym s ∙ rw (n, g)))
+    go (suc n) t = omega (arith, t)
