@@ -28,9 +28,13 @@ named t c = objectBased t (c .page)
 unfoldable pub live : Table → Capability → Bool
 live t c = grants (ordinaryMode (named t c) (c .password)) 1
 
--- "A Clist is any object read as pairs of words from its start": its words; none where the store is too short for it
+-- the words of a run of pages; none where the store is too short for it
+abbrev pub runWords : List ℕ → ℕ → ℕ → List ℕ
+runWords words base pages = cond (leb (64 * (base + pages)) (length words)) (take (64 * pages) (drop (64 * base) words)) []
+
+-- "A Clist is any object read as pairs of words from its start": its words
 unfoldable pub clist : List ℕ → Object → List ℕ
-clist words o = cond (leb (64 * (o .base + o .pages)) (length words)) (take (64 * o .pages) (drop (64 * o .base) words)) []
+clist words o = runWords words (o .base) (o .pages)
 
 -- the words of the Clist at slot k; "Others are passed over."
 unfoldable pub listAt : Table → List ℕ → Frame → ℕ → List ℕ

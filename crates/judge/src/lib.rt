@@ -1,20 +1,26 @@
 // How an access is judged.
 use rights::Rights;
 use state::Capability;
+use state::Estate;
 use state::Frame;
 use state::Object;
 use state::Table;
+use state::estates::based;
 use state::objects::mode_of;
 use state::objects::ordinary_mode;
 use state::tables::object_based;
 use state::tables::object_covering;
 ghost use mathlib.Core.Path.{_≡_};
+ghost use mathlib.Core.Bool.{cond, _||_};
 ghost use Prim.Native.Nat.{_+_, _*_, _<_};
+ghost use lib.Dec.{eqb};
 ghost use lib.ListN.{length};
 ghost use Rattle.rights.specs.Modes.{grants};
-ghost use Rattle.state.specs.Lookup.{ordinaryMode};
-ghost use Rattle.judge.specs.Search.{live, clist, pairMode, verdictOf, pairVerdict, decides, listVerdict, slotVerdict, frameVerdict, judgementOf, targeted};
+ghost use Rattle.state.specs.Sound.{free};
+ghost use Rattle.state.specs.Lookup.{ordinaryMode, based};
+ghost use Rattle.judge.specs.Search.{named, live, runWords, pairMode, verdictOf, pairVerdict, decides, listVerdict, slotVerdict, frameVerdict, judgementOf};
 ghost use Rattle.judge.specs.Judged.{judged};
+ghost use Rattle.judge.specs.declared.Judgement.the-variants.{Refused};
 
 // What is asked for: the object at an address, or the object with a base.
 pub enum Target {
@@ -35,12 +41,12 @@ pub enum Judgement {
     Refused,
 }
 
-// The part of the store that is the object read as a Clist; an empty part where the store is too short for it.
-pub fn clist<'a>(store: &'a [u64], o: Object) -> &'a [u64]
-    ensures { λ r. ⌜ now r ≡ clist (now (store .entry)) o ⌝ }
+// The part of the store that is a run of pages, read as a Clist; an empty part where the store is too short for it.
+pub fn clist<'a>(store: &'a [u64], base: u8, pages: u8) -> &'a [u64]
+    ensures { λ r. ⌜ now r ≡ runWords (now (store .entry)) base pages ⌝ }
 {
-    let start = 64 * (o.base as usize);
-    let end = 64 * (o.base as usize + o.pages as usize);
+    let start = 64 * (base as usize);
+    let end = 64 * (base as usize + pages as usize);
     if store.len() < end {
         return &store[0..0];
     }
@@ -62,6 +68,37 @@ pub fn live(t: Table, c: Capability) -> bool
     ensures { λ r. ⌜ r ≡ live t c ⌝ }
 {
     opens(object_based(t, c.page as u64), c.password)
+}
+
+// The pages of the object of an estate that a capability names and opens, 0 where there is none.
+fn opened_in(e: Estate, c: Capability) -> u8
+    ensures { λ r. ⌜ r ≡ cond (grants (ordinaryMode (based e (c .page)) (c .password)) 1) (based e (c .page) .pages) 0 ⌝ }
+{
+    let o = based(e, c.page as u64);
+    if opens(o, c.password) {
+        return o.pages;
+    }
+    0
+}
+
+// The pages of the Clist that a capability opens, 0 where it is not live.
+fn opened(t: Table, c: Capability) -> u8
+    ensures { λ r. ⌜ r ≡ cond (live t c) (named t c .pages) 0 ⌝ }
+{
+    let d = c.page / 32;
+    if d == 0 {
+        return opened_in(t.estates[0], c);
+    }
+    if d == 1 {
+        return opened_in(t.estates[1], c);
+    }
+    if d == 2 {
+        return opened_in(t.estates[2], c);
+    }
+    if d == 3 {
+        return opened_in(t.estates[3], c);
+    }
+    0
 }
 
 // The mode that a pair of words has for the object, 0 where it is not true for it.
@@ -93,8 +130,12 @@ fn pair_verdict(list: &[u64], start: u64, o: Object, wanted: Rights, i: usize) -
     ensures { λ r. ⌜ r ≡ pairVerdict (now (list .entry)) start o (wanted .bits) i ⌝ }
 {
     let at = 2 * i;
+    let word = list[at];
+    if (word / 256 != o.base as u64) & (wanted.bits != 0) {
+        return Verdict::Passed;
+    }
     let mode = Rights {
-        bits: pair_mode(o, list[at], list[at + 1]),
+        bits: pair_mode(o, word, list[at + 1]),
     };
     verdict_of(mode, wanted, start + at as u64)
 }
@@ -136,11 +177,12 @@ fn slot_verdict(t: Table, store: &[u64], f: Frame, o: Object, wanted: Rights, k:
         return Verdict::Passed;
     }
     let c = f.slots[k];
-    let l = object_based(t, c.page as u64);
-    if opens(l, c.password) {
-        return list_verdict(clist(store, l), 64 * (c.page as u64), o, wanted);
-    }
-    Verdict::Passed
+    list_verdict(
+        clist(store, c.page, opened(t, c)),
+        64 * (c.page as u64),
+        o,
+        wanted,
+    )
 }
 
 // The first deciding pair of the frame's live slots, by slot and then by place.
@@ -169,23 +211,22 @@ fn judgement_of(v: Verdict) -> Judgement
     }
 }
 
-// The object asked for, a free one where there is none.
-pub fn targeted(t: Table, target: Target) -> Object
-    ensures { λ r. ⌜ r ≡ targeted t target ⌝ }
+// Whether the frame's Clists grant the wanted rights on an object.
+fn judge_object(t: Table, store: &[u64], f: Frame, o: Object, wanted: Rights) -> Judgement
+    ensures { λ r. ⌜ r ≡ cond (free o || eqb (wanted .bits) 0) Refused (judgementOf (frameVerdict t (now (store .entry)) f o (wanted .bits))) ⌝ }
 {
-    match target {
-        Target::Address(a) => return object_covering(t, a / 64),
-        Target::Base(b) => return object_based(t, b),
+    if (o.pages == 0) | (wanted.bits == 0) {
+        return Judgement::Refused;
     }
+    judgement_of(frame_verdict(t, store, f, o, wanted))
 }
 
 // Whether the frame's Clists grant the wanted rights on the target.
 pub fn judge(t: Table, store: &[u64], f: Frame, target: Target, wanted: Rights) -> Judgement
     ensures { λ r. ⌜ r ≡ judged t (now (store .entry)) f target (wanted .bits) ⌝ }
 {
-    let o = targeted(t, target);
-    if (o.pages == 0) | (wanted.bits == 0) {
-        return Judgement::Refused;
+    match target {
+        Target::Address(a) => return judge_object(t, store, f, object_covering(t, a / 64), wanted),
+        Target::Base(b) => return judge_object(t, store, f, object_based(t, b), wanted),
     }
-    judgement_of(frame_verdict(t, store, f, o, wanted))
 }

@@ -8,8 +8,7 @@ pub judge-spec : {M : Type 1} → statement M
 unfolding searched
 judge-spec =
     tie.close
-    (tie.spec (λ c κs. search needs) (λ c. rw (judged-is, ← c .before .before .before .targeted .ensures, c .if1 .taken))
-    (λ c κs. search needs) (λ c κs. search needs)
-    (λ c.
-    let i = c .before .before in
-    rw (judged-is, ← i .before .before .before .targeted .ensures, i .if1 .left, ← c .before .frame-verdict .ensures) (c .judgement-of .ensures)))
+    (tie.spec (λ c. search needs) (λ c κs. search needs) (λ c κs. search needs)
+    (λ c. let o = c .before in rw (judged-is, o .before .before .target .given .1, ← o .object-covering .ensures) (c .judge-object .ensures))
+    (λ c. search needs) (λ c κs. search needs) (λ c κs. search needs)
+    (λ c. let o = c .before in rw (judged-is, o .before .before .target2 .given .1, ← o .object-based .ensures) (c .judge-object2 .ensures)))

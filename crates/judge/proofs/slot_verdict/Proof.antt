@@ -1,22 +1,41 @@
+use Prim.Native.Nat.{ℕ, _+_, _*_}
+use mathlib.Core.Path.{_≡_, refl, _∙_, sym}
+use mathlib.Core.Bool.{Bool, true, false, cond}
+use mathlib.Core.List.{List, []}
+use lib.Dec.{leb}
+use lib.ListN.{length}
 use borrow.Author.Tests.{lt-ltb, le-ltb}
 use borrow.Author.Needs.{needs}
 use Rattle.bounded.specs.Search.{first}
-use Rattle.judge.specs.Search.{live, listAt, listVerdict, slotVerdict}
+use Rattle.state.specs.declared.Capability.{Capability}
+use Rattle.state.specs.declared.Table.{Table}
+use Rattle.judge.specs.Search.{named, live, runWords, clist, listAt, listVerdict, slotVerdict}
+use Rattle.judge.specs.Laws.Lists.{live-base}
 use Rattle.judge.proofs.slot_verdict.Statement.{statement}
 use Rattle.judge.proofs.slot_verdict.Tie as tie
 
+none-read : (b : Bool) → _≡_ {A = List ℕ} (cond b [] []) []
+none-read true = refl
+none-read false = refl
+
+-- the words of the pages that a capability opens are those of the Clist that it names, where it is live
+opened-list : (t : Table) (words : List ℕ) (c : Capability) (n : ℕ) → n ≡ cond (live t c) (named t c .pages) 0
+    → runWords words (c .page) n ≡ cond (live t c) (clist words (named t c)) []
+unfolding clist
+opened-list t words c n = go (live t c) refl
+  where
+    go : (b : Bool) → live t c ≡ b → n ≡ cond b (named t c .pages) 0
+        → runWords words (c .page) n ≡ cond b (clist words (named t c)) []
+    go true h e = rw (e, live-base t c h)
+    go false h e = rw e (none-read (leb (64 * (c .page + 0)) (length words)))
+
 pub slot-verdict-spec : {M : Type 1} → statement M
-unfolding slotVerdict listAt live listVerdict first
+unfolding slotVerdict listAt listVerdict first
 slot-verdict-spec =
     tie.close
     (tie.spec (λ c. search needs) (λ c. rw (le-ltb _ _ (c .if1 .taken))) (λ c. search needs) (λ c. search needs)
-    (λ c. search needs) (λ c κs. search needs) (λ c κs. search needs) (λ c κs. search needs) (λ c. search needs)
-    (λ c. search needs) (λ c κs. search needs)
+    (λ c κs. search needs) (λ c κs. search needs) (λ c. search needs) (λ c. search needs) (λ c κs. search needs)
     (λ c.
-    let g = c .before .before .before in
-    let b = g .before .before in
-    rw (lt-ltb _ _ (b .before .before .before .if1 .left), ← b .object-based .ensures, ← g .before .opens .ensures, g .if2 .taken)
-    (rw (← c .before .before .clist .ensures) (c .list-verdict .ensures)))
-    (λ c.
-    let b = c .before .before in
-    rw (lt-ltb _ _ (b .before .before .before .if1 .left), ← b .object-based .ensures, ← c .before .opens .ensures, c .if2 .left)))
+    let n = c .before .before .before in
+    rw (lt-ltb _ _ (n .before .before .if1 .left), ← opened-list _ _ _ _ (n .opened .ensures), ← c .before .before .clist .ensures)
+    (c .list-verdict .ensures)))
