@@ -3,7 +3,7 @@ use calls::Call;
 use calls::Entries;
 use calls::Presented;
 ghost use mathlib.Core.Path.{_≡_};
-ghost use Prim.Native.Nat.{ℕ, _+_, _-_, _*_, _^_, _<_, _≤_};
+ghost use Prim.Native.Nat.{_+_, _-_, _*_, _^_, _<_, _≤_};
 ghost use lib.ListN.{length, drop};
 ghost use Rattle.lines.specs.Number.{after as Number·after, grown as Number·grown, numberOf};
 ghost use Rattle.lines.specs.Until.{until};

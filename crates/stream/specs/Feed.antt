@@ -1,23 +1,20 @@
 -- What the program holds, as a run, and what its parts do.
-use Prim.Native.Nat.{ℕ, _+_}
+use Prim.Native.Nat.{ℕ, _+_, _≤_}
 use mathlib.Core.Path.{_≡_}
 use mathlib.Core.Bool.{Bool, not, cond, _||_}
-use mathlib.Core.List.{List, [], _∷_}
+use mathlib.Core.List.{List, [], _∷_, _++_}
 use lib.Dec.{leb, eqb}
-use lib.ListN.{take, replicate}
+use lib.ListN.{length, take, replicate}
 use Rattle.state.specs.Places.{emptyState}
 use Rattle.state.specs.declared.State.{State}
+use Rattle.calls.specs.Step.{world, checked}
 use Rattle.calls.specs.View.{World}
-use Rattle.calls.specs.Step.{world, result, answeredWith, checked}
-use Rattle.calls.specs.Boot.{boot}
-use Rattle.calls.specs.declared.Call.{Call as Asked}
 use Rattle.lines.specs.declared.Line.{Line}
-use Rattle.lines.specs.declared.Line.the-variants.{Unreadable, Boot, Call}
-use Rattle.text.specs.Answer.{printed, printedEnd}
-use Rattle.stream.specs.Run.{Reply, Run, unread, bootedFrom, homesOf}
+use Rattle.text.specs.Answer.{answerLine, printed, printedEnd}
+use Rattle.stream.specs.Run.{Reply, Run, reply}
 use Rattle.stream.specs.declared.Feed.{Feed}
-use Rattle.stream.specs.declared.Access.{Access}
-use Rattle.stream.specs.declared.Access.the-variants.{Answered, Other}
+use Rattle.stream.specs.declared.Quick.{Quick}
+use Rattle.stream.specs.declared.Quick.the-variants.{Said, Unsaid}
 
 abbrev pub runAt : State → List ℕ → ℕ → List ℕ → ℕ → List ℕ → ℕ → Run
 runAt s words number line held out at = record { world = world s words; number = number; line = take held line; text = take at out }
@@ -44,13 +41,13 @@ roomFor length at = leb (at + 273) length
 abbrev pub stopped : ℕ → ℕ → ℕ → ℕ → Bool
 stopped piece out taken at = eqb taken piece || not (roomFor out at)
 
--- an access is what the call does, and leaves the state as it is; any other call has changed no word
-abbrev pub accessed : Access → State → List ℕ → List ℕ → ℕ → Asked → Type 0
-accessed (Answered a) s before after d c = result (answeredWith s a) after ≡ checked (world s before) d c
-accessed Other s before after d c = after ≡ before
+-- a line answered at once leaves the state as it is; one that is not has changed no word
+abbrev pub quickly : Quick → State → List ℕ → List ℕ → Line → Type 0
+quickly (Said number value) s before after l =
+    reply checked (world s before) l ≡ record { number = number; values = value ∷ []; world = world s after }
+quickly Unsaid s before after l = after ≡ before
 
--- a line that is no call
-abbrev pub otherReply : World → Line → Reply
-otherReply w Unreadable = unread w
-otherReply w (Boot d homes) = bootedFrom w (boot (w .words) d (homesOf homes))
-otherReply w (Call d c) = unread w
+-- a reply printed at `at`: the text goes on by it, up to `at′` in the buffer, and its world stands
+abbrev pub told : ℕ → List ℕ → ℕ → List ℕ → ℕ → World → Reply → Type 0
+told number out at out′ at′ w a =
+    (take at′ out′ ≡ take at out ++ answerLine number (a .number) (a .values)) × (w ≡ a .world) × (at′ ≤ length out)

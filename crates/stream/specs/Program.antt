@@ -21,7 +21,7 @@ use Rattle.lines.specs.declared.Line.{Line}
 use Rattle.lines.specs.declared.Line.the-variants.{Unreadable, Boot, Call}
 use Rattle.stream.specs.Run.{Run, called, reply, homesOf, stateAfter, lineDone, withLine, onByteBy, extended, header, started, lastLine, output}
 use Rattle.stream.specs.Held.{heldByte, onHeld, cut, cut-run, cut-last}
-use Rattle.stream.specs.Pieces.{joined, writtenFor, wholeOf, pieces-whole}
+use Rattle.stream.specs.Pieces.{joined, writtenFor, pieces-whole}
 
 -- a sound state passes check 3
 admits : (w : World) → sound (w .state) ≡ true → admitted w ≡ true

@@ -1,6 +1,6 @@
 -- What the call program writes for an input: document 01, "The call program".
 use Prim.Native.Nat.{ℕ, _+_}
-use mathlib.Core.Bool.{Bool, cond}
+use mathlib.Core.Bool.{cond}
 use mathlib.Core.List.{List, [], _∷_, _++_, foldl}
 use lib.Dec.{ltb, eqb}
 use lib.ListN.{length, replicate}
@@ -41,6 +41,9 @@ abbrev pub stateAfter : State → Answer → State → State
 stateAfter old (Done value) new = new
 stateAfter old (Refused why) new = old
 
+abbrev pub homesOf : Homes → List ℕ
+homesOf h = h .first ∷ h .second ∷ h .third ∷ h .fourth ∷ []
+
 abbrev pub bootedFrom : World → Result → Reply
 bootedFrom w r =
     record {
@@ -49,12 +52,12 @@ bootedFrom w r =
       world = world (stateAfter (w .state) (r .outcome .answer) (r .outcome .state)) (r .words);
     }
 
-abbrev pub homesOf : Homes → List ℕ
-homesOf h = h .first ∷ h .second ∷ h .third ∷ h .fourth ∷ []
+abbrev pub bootReply : World → ℕ → Homes → Reply
+bootReply w d homes = bootedFrom w (boot (w .words) d (homesOf homes))
 
 unfoldable pub reply : Carrying → World → Line → Reply
 reply carry w Unreadable = unread w
-reply carry w (Boot d homes) = bootedFrom w (boot (w .words) d (homesOf homes))
+reply carry w (Boot d homes) = bootReply w d homes
 reply carry w (Call d c) = called (carry w d c)
 
 -- the program between two bytes: the number of the line that it reads, the bytes of that line so far, and what it wrote

@@ -2,7 +2,7 @@
 use Prim.Native.Nat.{ℕ, zero, suc, _+_, _-_, _*_, _≤_, _<_, min}
 use mathlib.Core.Path.{_≡_, refl, _∙_, sym, ap}
 use mathlib.Core.Bool.{Bool, true, false, not, cond, _&&_, true≢false}
-use mathlib.Core.List.{List, [], _∷_, _++_, foldl, append-nil}
+use mathlib.Core.List.{List, [], _∷_, _++_, foldl}
 use mathlib.Core.Option.{Option, none, some}
 use native.Mathlib.Omega.{arith}
 use lib.Dec.{leb, ltb, eqb}
@@ -15,7 +15,7 @@ use Rattle.calls.specs.Answers.{numberOf, valueOf}
 use Rattle.calls.specs.View.{World, Judging, View, view, firstFailing}
 use Rattle.calls.specs.Checks.{checks}
 use Rattle.calls.specs.Changes.{frameFields, fields}
-use Rattle.calls.specs.Step.{Result, world, result, concluded, storeCheck, checkedBy, checked}
+use Rattle.calls.specs.Step.{Result, world, result, answeredWith, concluded, storeCheck, checkedBy, checked}
 use Rattle.calls.specs.Boot.{boot, booted}
 use Rattle.calls.specs.Laws.Booted.{bootChecks}
 use Rattle.calls.specs.declared.Call.{Call as Asked}
@@ -29,11 +29,13 @@ use Rattle.lines.specs.declared.Line.{Line}
 use Rattle.lines.specs.declared.Line.the-variants.{Unreadable, Boot, Call}
 use Rattle.text.specs.Answer.{answerLine, printed, printedEnd, valuesFrom}
 use Rattle.text.specs.Size.{up-to-end, answer-length}
-use Rattle.stream.specs.Run.{Carrying, Reply, Run, called, reply, stateAfter, homesOf, nextNumber, lineDone, started, lastLine}
-use Rattle.stream.specs.Feed.{startFeed, runAt, runOf, finishedText, finishedEnd, roomFor, stopped, otherReply}
+use Rattle.stream.specs.Run.{Run, unread, called, stateAfter, homesOf, bootReply, reply, started, lastLine}
+use Rattle.stream.specs.Feed.{startFeed, runAt, runOf, finishedText, finishedEnd, roomFor, stopped, quickly, told}
 use Rattle.stream.specs.Held.{onHeld}
 use Rattle.stream.specs.Pieces.{flushed}
 use Rattle.stream.specs.declared.Feed.{Feed}
+use Rattle.stream.specs.declared.Quick.{Quick}
+use Rattle.stream.specs.declared.Quick.the-variants.{Said}
 
 pub room-short : (length at : ℕ) → length < 273 → false ≡ roomFor length at
 room-short length at h =
@@ -67,6 +69,11 @@ told-end out at number answer vs {at′} h l e =
     let z : at′ ≡ at + length (answerLine number answer vs) = rw (e, le-leb (at + (42 + 21 * length vs)) (length out) k) in
     omega (arith, answer-length number answer vs)
 
+-- a reply, printed
+pub printed-told : (out : List ℕ) (at n answer : ℕ) (vs : List ℕ) (w : World) {out′ : List ℕ} {at′ : ℕ} → at + 273 ≤ length out → length vs ≤ 11
+    → out′ ≡ printed out at n answer vs → at′ ≡ printedEnd out at n answer vs → told n out at out′ at′ w (record { number = answer; values = vs; world = w })
+printed-told out at n answer vs w h l p q = (told-text out at n answer vs h l p q, refl, told-end out at n answer vs h l q)
+
 -- an answer has at most eleven values
 pub values-few : (a : Answer) (f : Fields) → length (f .values) ≡ 11 → length (valuesFrom a f) ≤ 11
 values-few a f h = go (eqb (f .count) 0)
@@ -74,26 +81,6 @@ values-few a f h = go (eqb (f .count) 0)
     go : (b : Bool) → length (cond b (valueOf a ∷ []) (take (f .count) (f .values))) ≤ 11
     go true = omega arith
     go false = omega (arith, length-take (f .count) (f .values))
-
-abbrev pub isCall : Line → Bool
-isCall Unreadable = false
-isCall (Boot d homes) = false
-isCall (Call d c) = true
-
-abbrev pub isBoot : Line → Bool
-isBoot Unreadable = false
-isBoot (Boot d homes) = true
-isBoot (Call d c) = false
-
--- a line that is no boot, printed
-pub unread-told : (s : State) (words out : List ℕ) (at n : ℕ) (reading : Line) {out′ : List ℕ} {at′ : ℕ} → isBoot reading ≡ false → at + 273 ≤ length out
-    → out′ ≡ printed out at n 1 (0 ∷ []) → at′ ≡ printedEnd out at n 1 (0 ∷ [])
-    → (take at′ out′ ≡ take at out ++ answerLine n (otherReply (world s words) reading .number) (otherReply (world s words) reading .values))
-    × (world s words ≡ otherReply (world s words) reading .world)
-    × (at′ ≤ length out)
-unread-told s words out at n Unreadable b h p q = (told-text out at n 1 (0 ∷ []) h (omega arith) p q, refl, told-end out at n 1 (0 ∷ []) h (omega arith) q)
-unread-told s words out at n (Boot d homes) b h p q = absurd (true≢false b)
-unread-told s words out at n (Call d c) b h p q = (told-text out at n 1 (0 ∷ []) h (omega arith) p q, refl, told-end out at n 1 (0 ∷ []) h (omega arith) q)
 
 boot-fields : (words : List ℕ) (d : ℕ) (homes : List ℕ) → length (boot words d homes .outcome .fields .values) ≡ 11
 unfolding boot
@@ -104,17 +91,15 @@ boot-fields words d homes = go (firstFailing (bootChecks words d homes))
     go (some r) = refl
 
 -- a boot, printed
-pub boot-told : (s : State) (words : List ℕ) (d : ℕ) (homes : Homes) (out : List ℕ) (at n : ℕ) {reading : Line} {o : Outcome} {words′ out′ : List ℕ} {at′ : ℕ} {after : State} → reading ≡ Boot d homes
+pub boot-told : (s : State) (words : List ℕ) (d : ℕ) (homes : Homes) (out : List ℕ) (at n : ℕ) {o : Outcome} {words′ out′ : List ℕ} {at′ : ℕ} {after : State}
     → result o words′ ≡ boot words d (homesOf homes) → at + 273 ≤ length out → out′ ≡ printed out at n (numberOf (o .answer)) (valuesFrom (o .answer) (o .fields))
     → at′ ≡ printedEnd out at n (numberOf (o .answer)) (valuesFrom (o .answer) (o .fields))
     → stateAfter s (o .answer) (o .state) ≡ after
-    → (take at′ out′ ≡ take at out ++ answerLine n (otherReply (world s words) reading .number) (otherReply (world s words) reading .values))
-    × (world after words′ ≡ otherReply (world s words) reading .world)
-    × (at′ ≤ length out)
-boot-told s words d homes out at n {reading} {o} {words′} {out′} {at′} {after} g e h p q k =
+    → told n out at out′ at′ (world after words′) (bootReply (world s words) d homes)
+boot-told s words d homes out at n {o} {words′} {out′} {at′} {after} e h p q k =
     let f : length (o .fields .values) ≡ 11 = ap (λ (z : Result). length (z .outcome .fields .values)) e ∙ boot-fields words d (homesOf homes) in
     let v = values-few (o .answer) (o .fields) f in
-    rw (g, ← e)
+    rw (← e)
     (told-text out at n (numberOf (o .answer)) (valuesFrom (o .answer) (o .fields)) h v p q, ap (λ (z : State). world z words′) (sym k), told-end out at n (numberOf (o .answer)) (valuesFrom (o .answer) (o .fields)) h v q)
 
 -- every answer has eleven places for fields
@@ -149,25 +134,12 @@ pub call-told : (s : State) (words out : List ℕ) (at n d : ℕ) (c : Asked) {o
     → result o words′ ≡ checked (world s words) d c → at + 273 ≤ length out
     → out′ ≡ printed out at n (numberOf (o .answer)) (valuesFrom (o .answer) (o .fields))
     → at′ ≡ printedEnd out at n (numberOf (o .answer)) (valuesFrom (o .answer) (o .fields))
-    → (take at′ out′ ≡ take at out ++ answerLine n (called (checked (world s words) d c) .number) (called (checked (world s words) d c) .values))
-    × (world (o .state) words′ ≡ called (checked (world s words) d c) .world)
-    × (at′ ≤ length out)
+    → told n out at out′ at′ (world (o .state) words′) (called (checked (world s words) d c))
 call-told s words out at n d c {o} {words′} {out′} {at′} e h p q =
     let f : length (o .fields .values) ≡ 11 = ap (λ (z : Result). length (z .outcome .fields .values)) e ∙ call-fields _ (world s words) d c in
     let v = values-few (o .answer) (o .fields) f in
     rw (← e)
     (told-text out at n (numberOf (o .answer)) (valuesFrom (o .answer) (o .fields)) h v p q, refl, told-end out at n (numberOf (o .answer)) (valuesFrom (o .answer) (o .fields)) h v q)
-
--- a line that is no call is answered so
-pub reply-other : (carry : Carrying) (w : World) (l : Line) → isCall l ≡ false → reply carry w l ≡ otherReply w l
-unfolding reply
-reply-other carry w Unreadable e = refl
-reply-other carry w (Boot d homes) e = refl
-reply-other carry w (Call d c) e = absurd (true≢false e)
-
-pub reply-call : (carry : Carrying) (w : World) (d : ℕ) (c : Asked) {l : Line} → l ≡ Call d c → reply carry w l ≡ called (carry w d c)
-unfolding reply
-reply-call carry w d c e = rw e
 
 -- past the end of a list nothing more is taken
 pub take-clip : (s : List ℕ) (n : ℕ) → take (min n (length s)) s ≡ take n s
@@ -260,3 +232,26 @@ feed-moves before piece size r words out z h l e k b s = go (r .taken) refl
         let n : eqb (r .taken) (length piece) ≡ false = rw t (ne-eqb 0 (length piece) (λ w. omega (arith, w))) in
         absurd (true≢false (sym s ∙ rw (n, g)))
     go (suc n) t = omega (arith, t)
+
+-- a line that leaves the state as it is, answered at once
+pub unread-quick : (s : State) (words : List ℕ) {l : Line} → l ≡ Unreadable → quickly (Said 1 0) s words words l
+unfolding reply
+unread-quick s words e = rw e
+
+pub call-quick : (s : State) (before after : List ℕ) (d : ℕ) (c : Asked) (a : Answer) {r : Quick} {call : Asked} → call ≡ c → r ≡ Said (numberOf a) (valueOf a)
+    → result (answeredWith s a) after ≡ checked (world s before) d c → quickly r s before after (Call d call)
+unfolding reply
+call-quick s before after d c a g q e = rw (g, q, ← e)
+
+-- a line of each kind, answered
+pub unread-line : (w : World) {l : Line} → l ≡ Unreadable → reply checked w l ≡ unread w
+unfolding reply
+unread-line w e = rw e
+
+pub boot-line : (w : World) (d : ℕ) (homes : Homes) {l : Line} → l ≡ Boot d homes → reply checked w l ≡ bootReply w d homes
+unfolding reply
+boot-line w d homes e = rw e
+
+pub call-line : (w : World) (d : ℕ) (c : Asked) {l : Line} → l ≡ Call d c → reply checked w l ≡ called (checked w d c)
+unfolding reply
+call-line w d c e = rw e

@@ -4,24 +4,28 @@ use apply::checked::apply;
 use boot::boot;
 use calls::Answer;
 use calls::Call;
-use calls::no_fields;
+use lines::Homes;
 use lines::Line;
 use lines::find;
 use lines::read_line;
 use state::State;
 use state::estates::empty_state;
+use text::answer_number;
+use text::answer_value;
 use text::put_answer;
 use text::put_line;
 ghost use mathlib.Core.Path.{_≡_};
 ghost use mathlib.Core.Bool.{true};
-ghost use mathlib.Core.List.{[], _∷_, _++_, foldl};
-ghost use Prim.Native.Nat.{ℕ, _+_, _≤_, min};
+ghost use mathlib.Core.List.{foldl};
+ghost use Prim.Native.Nat.{_+_, _≤_, min};
 ghost use lib.ListN.{length, take};
+ghost use Rattle.calls.specs.Answers.{numberOf, valueOf};
 ghost use Rattle.calls.specs.Step.{world, checked};
-ghost use Rattle.text.specs.Answer.{answerLine};
-ghost use Rattle.stream.specs.Run.{nextNumber, header};
+ghost use Rattle.lines.specs.declared.Line.the-variants.{Call as Line·Call};
+ghost use Rattle.stream.specs.Run.{called, bootReply, reply, nextNumber, header};
 ghost use Rattle.stream.specs.Held.{heldByte, onHeld};
-ghost use Rattle.stream.specs.Feed.{startFeed, runOf, finishedText, finishedEnd, roomFor, stopped, accessed, otherReply};
+ghost use Rattle.stream.specs.declared.Quick.the-variants.{Said};
+ghost use Rattle.stream.specs.Feed.{startFeed, runOf, finishedText, finishedEnd, roomFor, stopped, quickly, told};
 
 // Where the program stands between two bytes of its input.
 pub struct Feed {
@@ -43,10 +47,10 @@ struct Behind {
     at: usize,
 }
 
-// What an access is answered, which leaves the state as it is.
-enum Access {
-    Answered(Answer),
-    Other,
+// The answer number and the value of a line that leaves the state as it is. Unsaid where the line may change it.
+enum Quick {
+    Said(u64, u64),
+    Unsaid,
 }
 
 fn next_number(n: u64) -> u64
@@ -108,48 +112,64 @@ pub fn finish(f: Feed, out: &mut [u8]) -> usize
     put_line(out, 0, f.number, 1, &[0])
 }
 
-// An access, answered. Any other call is left alone.
-fn answer_access(s: State, store: &mut [u64], d: u64, call: Call) -> Access
-    ensures { λ r. ⌜ accessed r s (now (store .entry)) (now (store .exit)) d call ⌝ }
+// An answer without fields.
+fn said(a: Answer) -> Quick
+    ensures { λ r. ⌜ r ≡ Said (numberOf a) (valueOf a) ⌝ }
+{
+    Quick::Said(answer_number(a), answer_value(a))
+}
+
+// An access. Any other call is left alone.
+fn quick_call(s: State, store: &mut [u64], d: u64, call: Call) -> Quick
+    ensures { λ r. ⌜ quickly r s (now (store .entry)) (now (store .exit)) (Line·Call d call) ⌝ }
 {
     match call {
         Call::Read { address } => {
-            return Access::Answered(answers::read(s, store, d, address));
+            return said(answers::read(s, store, d, address));
         }
         Call::Write { address, value } => {
-            return Access::Answered(answers::write(s, store, d, address, value));
+            return said(answers::write(s, store, d, address, value));
         }
         Call::Execute { address } => {
-            return Access::Answered(answers::execute(s, store, d, address));
+            return said(answers::execute(s, store, d, address));
         }
         Call::Lookup { address, rights } => {
-            return Access::Answered(answers::apd_lookup(s, store, d, address, rights));
+            return said(answers::apd_lookup(s, store, d, address, rights));
         }
-        _ => return Access::Other,
+        _ => return Quick::Unsaid,
     }
 }
 
-// A boot, answered; any other line is answered by 1.
+// A line that is not readable, or an access. Any other line is left alone.
+fn quick_line(s: State, store: &mut [u64], reading: Line) -> Quick
+    ensures { λ r. ⌜ quickly r s (now (store .entry)) (now (store .exit)) reading ⌝ }
+{
+    match reading {
+        Line::Unreadable => return Quick::Said(1, 0),
+        Line::Boot {
+            domain: _,
+            homes: _,
+        } => return Quick::Unsaid,
+        Line::Call { domain, call } => return quick_call(s, store, domain, call),
+    }
+}
+
+// A boot. A refused one leaves the state as it is.
 fn boot_line(
     s: State,
     store: &mut [u64],
-    reading: Line,
+    d: u64,
+    homes: Homes,
     number: u64,
     out: &mut [u8],
     at: usize,
 ) -> Behind
     requires { ⌜ at + 273 ≤ length (now out) ⌝ }
-    ensures { λ r. ⌜ (take (r .at) (now (out .exit)) ≡ take at (now (out .entry)) ++ answerLine number (otherReply (world s (now (store .entry))) reading .number) (otherReply (world s (now (store .entry))) reading .values)) × (world (r .state) (now (store .exit)) ≡ otherReply (world s (now (store .entry))) reading .world) × (r .at ≤ length (now (out .entry))) ⌝ }
+    ensures { λ r. ⌜ told number (now (out .entry)) at (now (out .exit)) (r .at) (world (r .state) (now (store .exit))) (bootReply (world s (now (store .entry))) d homes) ⌝ }
 {
-    let Line::Boot { domain, homes } = reading else {
-        return Behind {
-            state: s,
-            at: put_line(out, at, number, 1, &[0]),
-        };
-    };
     let o = boot(
         store,
-        domain,
+        d,
         [homes.first, homes.second, homes.third, homes.fourth],
     );
     let a = o.answer;
@@ -159,8 +179,52 @@ fn boot_line(
             let state = o.state;
             return Behind { state, at: end };
         }
-        Answer::Refused(_) => {
+        Answer::Refused(_) => return Behind { state: s, at: end },
+    }
+}
+
+// A call.
+fn call_line(
+    s: State,
+    store: &mut [u64],
+    d: u64,
+    call: Call,
+    number: u64,
+    out: &mut [u8],
+    at: usize,
+) -> Behind
+    requires { ⌜ at + 273 ≤ length (now out) ⌝ }
+    ensures { λ r. ⌜ told number (now (out .entry)) at (now (out .exit)) (r .at) (world (r .state) (now (store .exit))) (called (checked (world s (now (store .entry))) d call)) ⌝ }
+{
+    let o = apply(s, store, d, call);
+    let a = o.answer;
+    let end = put_answer(out, at, number, a, o.fields);
+    let state = o.state;
+    Behind { state, at: end }
+}
+
+// Any line.
+fn answer_line(
+    s: State,
+    store: &mut [u64],
+    reading: Line,
+    number: u64,
+    out: &mut [u8],
+    at: usize,
+) -> Behind
+    requires { ⌜ at + 273 ≤ length (now out) ⌝ }
+    ensures { λ r. ⌜ told number (now (out .entry)) at (now (out .exit)) (r .at) (world (r .state) (now (store .exit))) (reply checked (world s (now (store .entry))) reading) ⌝ }
+{
+    match reading {
+        Line::Unreadable => {
+            let end = put_line(out, at, number, 1, &[0]);
             return Behind { state: s, at: end };
+        }
+        Line::Boot { domain, homes } => {
+            return boot_line(s, store, domain, homes, number, out, at);
+        }
+        Line::Call { domain, call } => {
+            return call_line(s, store, domain, call, number, out, at);
         }
     }
 }
@@ -232,22 +296,14 @@ pub fn feed_piece(f: Feed, store: &mut [u64], piece: &[u8], out: &mut [u8]) -> F
         number = next_number(n);
         held = 0;
         from = end + 1;
-        let Line::Call { domain, call } = reading else {
-            let r = boot_line(s, store, reading, n, out, at);
+        let Quick::Said(a, v) = quick_line(s, store, reading) else {
+            let r = answer_line(s, store, reading, n, out, at);
             let t = r.state;
             s = t;
             at = r.at;
             continue;
         };
-        let Access::Answered(a) = answer_access(s, store, domain, call) else {
-            let o = apply(s, store, domain, call);
-            let b = o.answer;
-            at = put_answer(out, at, n, b, o.fields);
-            let t = o.state;
-            s = t;
-            continue;
-        };
-        at = put_answer(out, at, n, a, no_fields());
+        at = put_line(out, at, n, a, &[v]);
     }
     Feed {
         state: s,

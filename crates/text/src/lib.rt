@@ -4,7 +4,7 @@ use calls::Fields;
 use calls::Refusal;
 ghost use mathlib.Core.Path.{_≡_};
 ghost use mathlib.Core.List.{[], _∷_};
-ghost use Prim.Native.Nat.{ℕ, _+_, _*_, _<_, _≤_};
+ghost use Prim.Native.Nat.{_+_, _*_, _<_, _≤_};
 ghost use lib.ListN.{length};
 ghost use Rattle.calls.specs.Answers.{refusalNumber, numberOf, valueOf};
 ghost use Rattle.text.specs.Decimal.{decimal};

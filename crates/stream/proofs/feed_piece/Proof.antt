@@ -1,4 +1,4 @@
-use Prim.Native.Nat.{_+_, _-_, _<_, _≤_}
+use Prim.Native.Nat.{_-_, _≤_}
 use mathlib.Core.Path.{_≡_, refl, _∙_, sym, ap}
 use mathlib.Core.List.{foldl}
 use native.Mathlib.Omega.{arith}
@@ -8,8 +8,7 @@ use Rattle.stream.specs.Run.{reply}
 use Rattle.stream.specs.Held.{heldByte, onHeld}
 use Rattle.stream.specs.Feeding.{Fed, fed-none, fed-part, fed-line, at-feed}
 use Rattle.stream.specs.Feed.{runAt}
-use Rattle.stream.specs.Told.{still-more, still-room, call-told, reply-other, reply-call, clip-run, stopped-at, shorter}
-use Rattle.stream.proofs.Told.{no-call}
+use Rattle.stream.specs.Told.{still-more, still-room, printed-told, clip-run, stopped-at, shorter}
 use borrow.Author.Needs.{needs}
 use Rattle.stream.proofs.feed_piece.Statement.{statement}
 use Rattle.stream.proofs.feed_piece.Tie as tie
@@ -29,42 +28,31 @@ feed-piece-spec =
     (λ c. omega (arith, still-more (c .before .before .before .before .before .before .before .before .loop .from) (length (c .before .before .before .before .before .before .before .before .before .before .before .before .before .before .before .before .args .piece .now)) (c .before .before .before .before .before .before .before .has-room .result) (c .before .before .before .before .before .before .if1 .taken)))
     (λ c.
     (fed-part checked heldByte (c .before .before .before .before .before .before .before .before .loop .inv .0) (c .before .before .before .before .before .find .ensures .0) (c .before .before .hold .ensures .0), c .before .before .hold .ensures .1, omega (arith, c .before .before .hold .kept .0), omega arith, omega arith, omega arith))
-    (λ c. search needs) (λ c. simp length-take (omega arith)) (λ c κs. search needs) (λ c κs. search needs) (λ c. search needs) (λ c. search needs)
+    (λ c. search needs) (λ c. simp length-take (omega arith)) (λ c κs. search needs) (λ c κs. search needs) (λ c. search needs) (λ c κs. search needs) (λ c. search needs) (λ c. search needs)
     (λ c κs.
-    let room = still-room (c .before .before .before .before .before .before .before .before .before .before .before .before .before .before .loop .from) (length (c .before .before .before .before .before .before .before .before .before .before .before .before .before .before .before .before .before .before .before .before .before .before .args .piece .now)) (length (c .before .before .before .before .before .before .before .before .before .before .before .before .before .before .loop .out)) (c .before .before .before .before .before .before .before .before .before .before .before .before .before .before .loop .at) (c .before .before .before .before .before .before .before .before .before .before .before .before .before .has-room .result) (c .before .before .before .before .before .before .before .before .before .before .before .before .if1 .taken) (c .before .before .before .before .before .before .before .before .before .before .before .before .before .has-room .ensures) in
+    let room = still-room (c .before .before .before .before .before .before .before .before .before .before .before .before .before .before .before .before .before .before .before .loop .from) (length (c .before .before .before .before .before .before .before .before .before .before .before .before .before .before .before .before .before .before .before .before .before .before .before .before .before .before .before .args .piece .now)) (length (c .before .before .before .before .before .before .before .before .before .before .before .before .before .before .before .before .before .before .before .loop .out)) (c .before .before .before .before .before .before .before .before .before .before .before .before .before .before .before .before .before .before .before .loop .at) (c .before .before .before .before .before .before .before .before .before .before .before .before .before .before .before .before .before .before .has-room .result) (c .before .before .before .before .before .before .before .before .before .before .before .before .before .before .before .before .before .if1 .taken) (c .before .before .before .before .before .before .before .before .before .before .before .before .before .before .before .before .before .before .has-room .ensures) in
     room)
-    (λ c. omega (arith, still-more (c .before .before .before .before .before .before .before .before .before .before .before .before .before .before .before .before .before .before .before .before .loop .from) (length (c .before .before .before .before .before .before .before .before .before .before .before .before .before .before .before .before .before .before .before .before .before .before .before .before .before .before .before .before .args .piece .now)) (c .before .before .before .before .before .before .before .before .before .before .before .before .before .before .before .before .before .before .before .has-room .result) (c .before .before .before .before .before .before .before .before .before .before .before .before .before .before .before .before .before .before .if1 .taken)))
+    (λ c. omega (arith, still-more (c .before .before .before .before .before .before .before .before .before .before .before .before .before .before .before .before .before .before .before .before .before .before .before .before .before .loop .from) (length (c .before .before .before .before .before .before .before .before .before .before .before .before .before .before .before .before .before .before .before .before .before .before .before .before .before .before .before .before .before .before .before .before .before .args .piece .now)) (c .before .before .before .before .before .before .before .before .before .before .before .before .before .before .before .before .before .before .before .before .before .before .before .before .has-room .result) (c .before .before .before .before .before .before .before .before .before .before .before .before .before .before .before .before .before .before .before .before .before .before .before .if1 .taken), c .before .before .before .before .before .before .before .before .before .before .before .before .before .before .before .before .before .before .before .before .before .before .find .ensures .1, c .before .before .before .before .before .before .before .before .before .before .before .before .before .before .before .before .before .before .before .before .before .before .find .ensures .2, c .before .before .before .before .before .before .before .before .before .before .before .before .before .before .before .before .before .if2 .left))
     (λ c.
-    let v = c .before .before .before .before .before .before .before .before .before .before .before .before .before .before .before .before .before .before .before .before .loop .inv in
+    let v = c .before .before .before .before .before .before .before .before .before .before .before .before .before .before .before .before .before .before .before .before .before .before .before .before .before .loop .inv in
     let i = v .0 in
-    let e = c .before .before .before .before .before .before .before .before .before .before .before .before .before .before .before .before .before .find .ensures in
-    let p = fed-part checked heldByte i (e .0) (c .before .before .before .before .before .before .before .before .before .before .before .before .before .before .hold .ensures .0) in
-    let l = shorter (c .before .before .before .before .before .before .before .before .before .before .before .before .if2 .left) (p .bound) in
-    let t = c .before .before .before .before .before .boot-line .ensures in
-    (fed-line checked heldByte p l (at-feed checked heldByte i (e .0) l) (ap (reply checked _) (sym (c .before .before .before .before .before .before .before .before .before .before .read-line .ensures)) ∙ reply-other checked _ (c .before .before .before .before .before .before .before .before .before .before .read-line .result) (no-call (c .before .before .before .before .before .before .before .before .before .before .read-line .result) (c .before .before .before .before .before .before .before .before .match .keys2))) (c .before .before .before .before .before .before .before .before .before .next-number .ensures) (t .0) (t .1), omega arith, omega (arith, v .2, c .before .before .before .before .before .before .before .before .before .before .before .before .before .before .hold .kept .0), omega (arith, v .3, c .before .before .before .before .before .boot-line .kept .1 .0, c .before .before .before .before .before .boot-line .kept .1 .1 .1 .1 .0), omega (arith, v .4, c .before .before .before .before .before .boot-line .kept .1 .0, c .before .before .before .before .before .boot-line .kept .1 .1 .1 .1 .0), omega (arith, t .2, c .before .before .before .before .before .boot-line .kept .1 .0, c .before .before .before .before .before .boot-line .kept .1 .1 .1 .1 .0)))
-    (λ c κs. search needs) (λ c. search needs) (λ c. search needs) (λ c κs. search needs) (λ c κs. search needs) (λ c. omega (arith, still-more (c .before .before .before .before .before .before .before .before .before .before .before .before .before .before .before .before .before .before .before .before .before .before .before .before .before .before .before .before .before .loop .from) (length (c .before .before .before .before .before .before .before .before .before .before .before .before .before .before .before .before .before .before .before .before .before .before .before .before .before .before .before .before .before .before .before .before .before .before .before .before .before .args .piece .now)) (c .before .before .before .before .before .before .before .before .before .before .before .before .before .before .before .before .before .before .before .before .before .before .before .before .before .before .before .before .has-room .result) (c .before .before .before .before .before .before .before .before .before .before .before .before .before .before .before .before .before .before .before .before .before .before .before .before .before .before .before .if1 .taken), c .before .before .before .before .before .before .before .before .before .before .before .before .before .before .before .before .before .before .before .before .before .before .before .before .before .before .find .ensures .1, c .before .before .before .before .before .before .before .before .before .before .before .before .before .before .before .before .before .before .before .before .before .before .before .before .before .before .find .ensures .2, c .before .before .before .before .before .before .before .before .before .before .before .before .before .before .before .before .before .before .before .before .before .if2 .left))
+    let e = c .before .before .before .before .before .before .before .before .before .before .before .before .before .before .before .before .before .before .before .before .before .before .find .ensures in
+    let p = fed-part checked heldByte i (e .0) (c .before .before .before .before .before .before .before .before .before .before .before .before .before .before .before .before .before .before .before .hold .ensures .0) in
+    let l = shorter (c .before .before .before .before .before .before .before .before .before .before .before .before .before .before .before .before .before .if2 .left) (p .bound) in
+    let w = rw (c .before .before .before .before .before .before .before .before .enum-told .given .1) at (c .before .before .before .before .before .before .before .before .before .before .before .before .quick-line .ensures) in
+    let t = rw w at (c .before .before .before .before .before .answer-line .ensures) in
+    (fed-line checked heldByte p l (at-feed checked heldByte i (e .0) l) (ap (reply checked _) (sym (c .before .before .before .before .before .before .before .before .before .before .before .before .before .before .before .read-line .ensures))) (c .before .before .before .before .before .before .before .before .before .before .before .before .before .before .next-number .ensures) (t .0) (t .1), omega arith, omega (arith, v .2, c .before .before .before .before .before .before .before .before .before .before .before .before .before .before .before .before .before .before .before .hold .kept .0), omega (arith, v .3, c .before .before .before .before .before .before .before .before .before .before .before .before .quick-line .kept .1 .0, c .before .before .before .before .before .answer-line .kept .1 .0, c .before .before .before .before .before .answer-line .kept .1 .1 .1 .1 .0), omega (arith, v .4, c .before .before .before .before .before .before .before .before .before .before .before .before .quick-line .kept .1 .0, c .before .before .before .before .before .answer-line .kept .1 .0, c .before .before .before .before .before .answer-line .kept .1 .1 .1 .1 .0), omega (arith, t .2, c .before .before .before .before .before .before .before .before .before .before .before .before .quick-line .kept .1 .0, c .before .before .before .before .before .answer-line .kept .1 .0, c .before .before .before .before .before .answer-line .kept .1 .1 .1 .1 .0)))
+    (λ c. search needs) (λ c κs. search needs) (λ c. omega (arith, still-more (c .before .before .before .before .before .before .before .before .before .before .before .before .before .before .before .before .before .before .before .before .before .before .before .loop .from) (length (c .before .before .before .before .before .before .before .before .before .before .before .before .before .before .before .before .before .before .before .before .before .before .before .before .before .before .before .before .before .before .before .args .piece .now)) (c .before .before .before .before .before .before .before .before .before .before .before .before .before .before .before .before .before .before .before .before .before .before .has-room .result) (c .before .before .before .before .before .before .before .before .before .before .before .before .before .before .before .before .before .before .before .before .before .if1 .taken), c .before .before .before .before .before .before .before .before .before .before .before .before .before .before .before .before .before .before .before .before .find .ensures .1, c .before .before .before .before .before .before .before .before .before .before .before .before .before .before .before .before .before .before .before .before .find .ensures .2, c .before .before .before .before .before .before .before .before .before .before .before .before .before .before .before .if2 .left))
     (λ c.
-    let v = c .before .before .before .before .before .before .before .before .before .before .before .before .before .before .before .before .before .before .before .before .before .before .before .before .before .before .before .before .before .loop .inv in
+    let v = c .before .before .before .before .before .before .before .before .before .before .before .before .before .before .before .before .before .before .before .before .before .before .before .loop .inv in
     let i = v .0 in
-    let e = c .before .before .before .before .before .before .before .before .before .before .before .before .before .before .before .before .before .before .before .before .before .before .before .before .before .before .find .ensures in
-    let p = fed-part checked heldByte i (e .0) (c .before .before .before .before .before .before .before .before .before .before .before .before .before .before .before .before .before .before .before .before .before .before .before .hold .ensures .0) in
-    let l = shorter (c .before .before .before .before .before .before .before .before .before .before .before .before .before .before .before .before .before .before .before .before .before .if2 .left) (p .bound) in
-    let room = still-room (c .before .before .before .before .before .before .before .before .before .before .before .before .before .before .before .before .before .before .before .before .before .before .before .before .before .before .before .before .before .loop .from) (length (c .before .before .before .before .before .before .before .before .before .before .before .before .before .before .before .before .before .before .before .before .before .before .before .before .before .before .before .before .before .before .before .before .before .before .before .before .before .args .piece .now)) (length (c .before .before .before .before .before .before .before .before .before .before .before .before .before .before .before .before .before .before .before .before .before .before .before .before .before .before .before .before .before .loop .out)) (c .before .before .before .before .before .before .before .before .before .before .before .before .before .before .before .before .before .before .before .before .before .before .before .before .before .before .before .before .before .loop .at) (c .before .before .before .before .before .before .before .before .before .before .before .before .before .before .before .before .before .before .before .before .before .before .before .before .before .before .before .before .has-room .result) (c .before .before .before .before .before .before .before .before .before .before .before .before .before .before .before .before .before .before .before .before .before .before .before .before .before .before .before .if1 .taken) (c .before .before .before .before .before .before .before .before .before .before .before .before .before .before .before .before .before .before .before .before .before .before .before .before .before .before .before .before .has-room .ensures) in
-    let w = rw (c .before .before .before .before .before .before .before .before .before .enum-told .given .1) at (c .before .before .before .before .before .before .before .before .before .before .before .before .before .answer-access .ensures) in
-    let t = call-told (c .before .before .before .before .before .before .before .before .before .before .before .before .before .before .before .before .before .before .before .before .before .before .before .before .before .before .before .before .before .loop .s) (c .before .before .before .before .before .before .before .before .before .before .before .before .before .before .before .before .before .before .before .before .before .before .before .before .before .before .before .before .before .loop .store) (c .before .before .before .before .before .before .before .before .before .before .before .before .before .before .before .before .before .before .before .before .before .before .before .before .before .before .before .before .before .loop .out) (c .before .before .before .before .before .before .before .before .before .before .before .before .before .before .before .before .before .before .before .before .before .before .before .before .before .before .before .before .before .loop .at) (c .before .before .before .before .before .before .before .before .before .before .before .before .before .before .before .before .before .before .before .before .before .before .before .before .before .before .before .before .before .loop .number) _ _ (rw w at (c .before .before .before .before .before .before .before .apply .ensures)) room (c .before .before .before .put-answer .ensures .0) (c .before .before .before .put-answer .ensures .1) in
-    (fed-line checked heldByte p l (at-feed checked heldByte i (e .0) l) (ap (reply checked _) (sym (c .before .before .before .before .before .before .before .before .before .before .before .before .before .before .before .before .before .before .before .read-line .ensures)) ∙ reply-call checked _ _ _ (c .before .before .before .before .before .before .before .before .before .before .before .before .before .before .before .before .reading .given .1)) (c .before .before .before .before .before .before .before .before .before .before .before .before .before .before .before .before .before .before .next-number .ensures) (t .0) (t .1), omega arith, omega (arith, v .2, c .before .before .before .before .before .before .before .before .before .before .before .before .before .before .before .before .before .before .before .before .before .before .before .hold .kept .0), omega (arith, v .3, c .before .before .before .before .before .before .before .before .before .before .before .before .before .answer-access .kept .1 .0, c .before .before .before .before .before .before .before .apply .kept .1 .0, c .before .before .before .put-answer .kept .0), omega (arith, v .4, c .before .before .before .before .before .before .before .before .before .before .before .before .before .answer-access .kept .1 .0, c .before .before .before .before .before .before .before .apply .kept .1 .0, c .before .before .before .put-answer .kept .0), omega (arith, t .2, c .before .before .before .before .before .before .before .before .before .before .before .before .before .answer-access .kept .1 .0, c .before .before .before .before .before .before .before .apply .kept .1 .0, c .before .before .before .put-answer .kept .0)))
-    (λ c κs. search needs) (λ c κs. search needs) (λ c. omega (arith, still-more (c .before .before .before .before .before .before .before .before .before .before .before .before .before .before .before .before .before .before .before .before .before .before .before .before .before .before .loop .from) (length (c .before .before .before .before .before .before .before .before .before .before .before .before .before .before .before .before .before .before .before .before .before .before .before .before .before .before .before .before .before .before .before .before .before .before .args .piece .now)) (c .before .before .before .before .before .before .before .before .before .before .before .before .before .before .before .before .before .before .before .before .before .before .before .before .before .has-room .result) (c .before .before .before .before .before .before .before .before .before .before .before .before .before .before .before .before .before .before .before .before .before .before .before .before .if1 .taken), c .before .before .before .before .before .before .before .before .before .before .before .before .before .before .before .before .before .before .before .before .before .before .before .find .ensures .1, c .before .before .before .before .before .before .before .before .before .before .before .before .before .before .before .before .before .before .before .before .before .before .before .find .ensures .2, c .before .before .before .before .before .before .before .before .before .before .before .before .before .before .before .before .before .before .if2 .left))
-    (λ c.
-    let v = c .before .before .before .before .before .before .before .before .before .before .before .before .before .before .before .before .before .before .before .before .before .before .before .before .before .before .loop .inv in
-    let i = v .0 in
-    let e = c .before .before .before .before .before .before .before .before .before .before .before .before .before .before .before .before .before .before .before .before .before .before .before .find .ensures in
-    let p = fed-part checked heldByte i (e .0) (c .before .before .before .before .before .before .before .before .before .before .before .before .before .before .before .before .before .before .before .before .hold .ensures .0) in
-    let l = shorter (c .before .before .before .before .before .before .before .before .before .before .before .before .before .before .before .before .before .before .if2 .left) (p .bound) in
-    let room = still-room (c .before .before .before .before .before .before .before .before .before .before .before .before .before .before .before .before .before .before .before .before .before .before .before .before .before .before .loop .from) (length (c .before .before .before .before .before .before .before .before .before .before .before .before .before .before .before .before .before .before .before .before .before .before .before .before .before .before .before .before .before .before .before .before .before .before .args .piece .now)) (length (c .before .before .before .before .before .before .before .before .before .before .before .before .before .before .before .before .before .before .before .before .before .before .before .before .before .before .loop .out)) (c .before .before .before .before .before .before .before .before .before .before .before .before .before .before .before .before .before .before .before .before .before .before .before .before .before .before .loop .at) (c .before .before .before .before .before .before .before .before .before .before .before .before .before .before .before .before .before .before .before .before .before .before .before .before .before .has-room .result) (c .before .before .before .before .before .before .before .before .before .before .before .before .before .before .before .before .before .before .before .before .before .before .before .before .if1 .taken) (c .before .before .before .before .before .before .before .before .before .before .before .before .before .before .before .before .before .before .before .before .before .before .before .before .before .has-room .ensures) in
-    let w = rw (c .before .before .before .before .before .before .a .given .1) at (c .before .before .before .before .before .before .before .before .before .before .answer-access .ensures) in
-    let q = rw (c .before .before .before .no-fields .ensures) at (c .before .before .put-answer2 .ensures) in
-    let t = call-told (c .before .before .before .before .before .before .before .before .before .before .before .before .before .before .before .before .before .before .before .before .before .before .before .before .before .before .loop .s) (c .before .before .before .before .before .before .before .before .before .before .before .before .before .before .before .before .before .before .before .before .before .before .before .before .before .before .loop .store) (c .before .before .before .before .before .before .before .before .before .before .before .before .before .before .before .before .before .before .before .before .before .before .before .before .before .before .loop .out) (c .before .before .before .before .before .before .before .before .before .before .before .before .before .before .before .before .before .before .before .before .before .before .before .before .before .before .loop .at) (c .before .before .before .before .before .before .before .before .before .before .before .before .before .before .before .before .before .before .before .before .before .before .before .before .before .before .loop .number) _ _ w room (q .0) (q .1) in
-    (fed-line checked heldByte p l (at-feed checked heldByte i (e .0) l) (ap (reply checked _) (sym (c .before .before .before .before .before .before .before .before .before .before .before .before .before .before .before .before .read-line .ensures)) ∙ reply-call checked _ _ _ (c .before .before .before .before .before .before .before .before .before .before .before .before .before .reading .given .1)) (c .before .before .before .before .before .before .before .before .before .before .before .before .before .before .before .next-number .ensures) (t .0) (t .1), omega arith, omega (arith, v .2, c .before .before .before .before .before .before .before .before .before .before .before .before .before .before .before .before .before .before .before .before .hold .kept .0), omega (arith, v .3, c .before .before .before .before .before .before .before .before .before .before .answer-access .kept .1 .0, c .before .before .put-answer2 .kept .0), omega (arith, v .4, c .before .before .before .before .before .before .before .before .before .before .answer-access .kept .1 .0, c .before .before .put-answer2 .kept .0), omega (arith, t .2, c .before .before .before .before .before .before .before .before .before .before .answer-access .kept .1 .0, c .before .before .put-answer2 .kept .0)))
+    let e = c .before .before .before .before .before .before .before .before .before .before .before .before .before .before .before .before .before .before .before .before .find .ensures in
+    let p = fed-part checked heldByte i (e .0) (c .before .before .before .before .before .before .before .before .before .before .before .before .before .before .before .before .before .hold .ensures .0) in
+    let l = shorter (c .before .before .before .before .before .before .before .before .before .before .before .before .before .before .before .if2 .left) (p .bound) in
+    let room = still-room (c .before .before .before .before .before .before .before .before .before .before .before .before .before .before .before .before .before .before .before .before .before .before .before .loop .from) (length (c .before .before .before .before .before .before .before .before .before .before .before .before .before .before .before .before .before .before .before .before .before .before .before .before .before .before .before .before .before .before .before .args .piece .now)) (length (c .before .before .before .before .before .before .before .before .before .before .before .before .before .before .before .before .before .before .before .before .before .before .before .loop .out)) (c .before .before .before .before .before .before .before .before .before .before .before .before .before .before .before .before .before .before .before .before .before .before .before .loop .at) (c .before .before .before .before .before .before .before .before .before .before .before .before .before .before .before .before .before .before .before .before .before .before .has-room .result) (c .before .before .before .before .before .before .before .before .before .before .before .before .before .before .before .before .before .before .before .before .before .if1 .taken) (c .before .before .before .before .before .before .before .before .before .before .before .before .before .before .before .before .before .before .before .before .before .before .has-room .ensures) in
+    let q = rw (c .before .before .before .before .before .before .a .given .1) at (c .before .before .before .before .before .before .before .before .before .before .quick-line .ensures) in
+    let t = printed-told (c .before .before .before .before .before .before .before .before .before .before .before .before .before .before .before .before .before .before .before .before .before .before .before .loop .out) (c .before .before .before .before .before .before .before .before .before .before .before .before .before .before .before .before .before .before .before .before .before .before .before .loop .at) (c .before .before .before .before .before .before .before .before .before .before .before .before .before .before .before .before .before .before .before .before .before .before .before .loop .number) _ _ _ room (omega arith) (c .before .before .put-line .ensures .0) (c .before .before .put-line .ensures .1) in
+    (fed-line checked heldByte p l (at-feed checked heldByte i (e .0) l) (ap (reply checked _) (sym (c .before .before .before .before .before .before .before .before .before .before .before .before .before .read-line .ensures)) ∙ q) (c .before .before .before .before .before .before .before .before .before .before .before .before .next-number .ensures) (t .0) (t .1), omega arith, omega (arith, v .2, c .before .before .before .before .before .before .before .before .before .before .before .before .before .before .before .before .before .hold .kept .0), omega (arith, v .3, c .before .before .before .before .before .before .before .before .before .before .quick-line .kept .1 .0, c .before .before .put-line .kept .0), omega (arith, v .4, c .before .before .before .before .before .before .before .before .before .before .quick-line .kept .1 .0, c .before .before .put-line .kept .0), omega (arith, t .2, c .before .before .before .before .before .before .before .before .before .before .quick-line .kept .1 .0, c .before .before .put-line .kept .0)))
     (λ c. omega arith) (λ c. omega arith)
     (λ c.
     let long : length (c .before .before .before .before .before .before .before .before .before .before .args .f .line) ≡ 201 = simp length-map at (c .before .before .before .before .before .before .before .before .before .before .good .0 .1 .1 .1 .1 .0 .1 .0 .1) in
