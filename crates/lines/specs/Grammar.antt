@@ -77,11 +77,15 @@ objectCallOf d letters n x =
     (cond (eqb letters 0x5247) (atLeast d n 4 (registerOf n x))
     (domainCallOf d letters n x)))))
 
+-- the home passwords of a boot
+abbrev pub homesFrom : Eight → Homes
+homesFrom x = record { first = x .0; second = x .1; third = x .2; fourth = x .3 }
+
 -- a boot, an access, or one of the others
 unfoldable pub callOf : ℕ → ℕ → ℕ → Eight → Line
 callOf d letters n x =
     -- BT
-    cond (eqb letters 0x4254) (bootOf d n (record { first = x .0; second = x .1; third = x .2; fourth = x .3 }))
+    cond (eqb letters 0x4254) (bootOf d n (homesFrom x))
     -- RD
     (cond (eqb letters 0x5244) (exactly d n 1 (Read (x .0)))
     -- WR

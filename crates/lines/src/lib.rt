@@ -5,10 +5,11 @@ use calls::Presented;
 ghost use mathlib.Core.Path.{_≡_};
 ghost use Prim.Native.Nat.{_+_, _-_, _*_, _^_, _<_, _≤_};
 ghost use lib.ListN.{length, drop};
+ghost use Rattle.calls.specs.declared.Call.the-variants.{Create};
 ghost use Rattle.lines.specs.Number.{after as Number·after, grown as Number·grown, numberOf};
 ghost use Rattle.lines.specs.Until.{until};
 ghost use Rattle.lines.specs.Arguments.{withNumber, eightOf, argumentsOf};
-ghost use Rattle.lines.specs.Grammar.{lettersOf, exactly as Grammar·exactly, atLeast, bootOf, registerOf, domainCallOf, objectCallOf, callOf, lineOf};
+ghost use Rattle.lines.specs.Grammar.{homesFrom, lettersOf, exactly as Grammar·exactly, atLeast, bootOf, registerOf, domainCallOf, objectCallOf, callOf, lineOf};
 
 // What a field reads as.
 pub enum Field {
@@ -269,22 +270,23 @@ fn domain_call(domain: u64, letters: u64, n: usize, x: Eight) -> Line
     }
 }
 
+fn create(x: Eight) -> Call
+    ensures { λ r. ⌜ r ≡ Create (x .0) (x .1) (x .2) ⌝ }
+{
+    Call::Create {
+        page: x.0,
+        pages: x.1,
+        password: x.2,
+    }
+}
+
 // The calls on objects, else those on domains.
 fn object_call(domain: u64, letters: u64, n: usize, x: Eight) -> Line
     ensures { λ r. ⌜ r ≡ objectCallOf domain letters n x ⌝ }
 {
     match letters {
         // CR
-        0x4352 => return exactly(
-            domain,
-            n,
-            3,
-            Call::Create {
-                page: x.0,
-                pages: x.1,
-                password: x.2,
-            },
-        ),
+        0x4352 => return exactly(domain, n, 3, create(x)),
         // DL
         0x444c => return exactly(domain, n, 1, Call::Delete { base: x.0 }),
         // AP
@@ -314,22 +316,24 @@ fn object_call(domain: u64, letters: u64, n: usize, x: Eight) -> Line
     }
 }
 
+fn home_passwords(x: Eight) -> Homes
+    ensures { λ r. ⌜ r ≡ homesFrom x ⌝ }
+{
+    Homes {
+        first: x.0,
+        second: x.1,
+        third: x.2,
+        fourth: x.3,
+    }
+}
+
 // The call of these letters: a boot, an access, or one of the others.
 fn call_of(domain: u64, letters: u64, n: usize, x: Eight) -> Line
     ensures { λ r. ⌜ r ≡ callOf domain letters n x ⌝ }
 {
     match letters {
         // BT
-        0x4254 => return boot(
-            domain,
-            n,
-            Homes {
-                first: x.0,
-                second: x.1,
-                third: x.2,
-                fourth: x.3,
-            },
-        ),
+        0x4254 => return boot(domain, n, home_passwords(x)),
         // RD
         0x5244 => return exactly(domain, n, 1, Call::Read { address: x.0 }),
         // WR

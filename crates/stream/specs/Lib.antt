@@ -5,3 +5,4 @@ pub mod Program
 pub mod Feeding
 pub mod Feed
 pub mod Told
+pub mod Turns

@@ -62,6 +62,11 @@ module _ (carry : Carrying) (more : List ℕ → ℕ → List ℕ) where
   written-behind t r [] = last-behind t r
   written-behind t r (p ∷ ps) = refl
 
+  -- what was written before does not matter
+  pub written-flushed : (r : Run) (ps : List (List ℕ)) → writtenFor (flushed r) ps ≡ writtenFor r ps
+  written-flushed r [] = last-flushed r
+  written-flushed r (p ∷ ps) = refl
+
   -- WHEREVER THE INPUT IS CUT
   pub pieces-whole : (ps : List (List ℕ)) (r : Run) → r .text ++ writtenFor r ps ≡ wholeOf r (joined ps)
   pieces-whole [] r = refl

@@ -163,7 +163,7 @@ impl Bench {
         }
         println!(
             "A function that is not listed is inlined into its caller, or takes less: so\n\
-             monitor::main holds the reading of lines, most of the accesses' own code and\n\
+             monitor::run holds the reading of lines, most of the accesses' own code and\n\
              what it copies without a call of memmove."
         );
         Ok(())

@@ -1,0 +1,38 @@
+-- The program from start to finish: its functions, called one after the other, write what document 01 says.
+use Prim.Native.Nat.{ℕ, _≤_}
+use mathlib.Core.Path.{_≡_, _∙_, ap}
+use mathlib.Core.List.{List, [], _∷_, _++_, foldl}
+use lib.ListN.{length, take, replicate}
+use Rattle.calls.specs.Step.{checked}
+use Rattle.stream.specs.Run.{Run, header, started, lastLine, output}
+use Rattle.stream.specs.Held.{heldByte, onHeld}
+use Rattle.stream.specs.Pieces.{joined, writtenFor, written-flushed}
+use Rattle.stream.specs.Program.{program-writes}
+use Rattle.stream.specs.Feed.{startFeed, runOf, finishedText, finishedEnd}
+use Rattle.stream.specs.Told.{start-run, finish-writes}
+use Rattle.stream.specs.declared.Feed.{Feed}
+
+-- the same with an empty buffer
+abbrev pub emptied : Feed → Feed
+emptied f = record { state = f .state; number = f .number; line = f .line; held = f .held; at = 0; taken = f .taken }
+
+-- what is written from a feed on: for each piece that `feed_piece` takes from an empty buffer its text, and what `finish` adds
+pub data Turns : Feed → List ℕ → List (List ℕ) → List ℕ → Type 0 where
+  finish : (f : Feed) (words out : List ℕ) → length (f .line) ≡ 201 → 273 ≤ length out → Turns f words [] (take (finishedEnd f out) (finishedText f out))
+  turn : (f : Feed) (words out : List ℕ) (p : List ℕ) (f′ : Feed) (words′ out′ : List ℕ) (ps : List (List ℕ)) (t : List ℕ)
+      → runOf f′ words′ out′ ≡ foldl (onHeld checked) (runOf (emptied f) words out) p → Turns f′ words′ ps t
+      → Turns f words (p ∷ ps) (take (f′ .at) out′ ++ t)
+
+turns-write : (f : Feed) (words out : List ℕ) (ps : List (List ℕ)) (t : List ℕ) → Turns f words ps t → t ≡ writtenFor checked heldByte (runOf f words out) ps
+unfolding lastLine
+turns-write _ _ out _ _ (finish f words out₁ l h) = finish-writes f words out₁ l h
+turns-write _ _ out _ _ (turn f words out₁ p f′ words′ out′ ps′ t′ e n) =
+    ap (λ (z : List ℕ). take (f′ .at) out′ ++ z) (turns-write f′ words′ out′ ps′ t′ n)
+    ∙ ap (λ (z : Run). z .text ++ writtenFor checked heldByte z ps′) e
+
+-- WHAT THE PROGRAM WRITES: the header, and what the turns from the start on write, for any pieces of an input
+pub turns-output : (ps : List (List ℕ)) (t : List ℕ) → Turns startFeed (replicate 8192 0) ps t → header ++ t ≡ output (joined ps)
+turns-output ps t n =
+    ap (λ (z : List ℕ). header ++ z) (turns-write startFeed (replicate 8192 0) [] ps t n ∙ ap (λ (z : Run). writtenFor checked heldByte z ps) (start-run []))
+    ∙ ap (λ (z : List ℕ). header ++ z) (written-flushed checked heldByte started ps)
+    ∙ program-writes ps
