@@ -16,6 +16,7 @@ use Rattle.stream.specs.declared.Feed.{Feed}
 use Rattle.stream.specs.declared.Quick.{Quick}
 use Rattle.stream.specs.declared.Quick.the-variants.{Said, Unsaid}
 
+-- the first `held` bytes of the line, and the first `at` bytes of the buffer
 abbrev pub runAt : State → List ℕ → ℕ → List ℕ → ℕ → List ℕ → ℕ → Run
 runAt s words number line held out at = record { world = world s words; number = number; line = take held line; text = take at out }
 

@@ -5,4 +5,5 @@ pub mod Program
 pub mod Feeding
 pub mod Feed
 pub mod Told
+pub mod Room
 pub mod Turns

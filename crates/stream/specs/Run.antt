@@ -33,6 +33,7 @@ Carrying = World → ℕ → Asked → Result
 abbrev pub unread : World → Reply
 unread w = record { number = 1; values = 0 ∷ []; world = w }
 
+-- "an answer number (0 is done), a value": a call's result
 abbrev pub called : Result → Reply
 called r = record { number = numberOf (r .outcome .answer); values = valuesOf (r .outcome); world = worldOf r }
 
@@ -55,6 +56,7 @@ bootedFrom w r =
 abbrev pub bootReply : World → ℕ → Homes → Reply
 bootReply w d homes = bootedFrom w (boot (w .words) d (homesOf homes))
 
+-- what is answered to a line
 unfoldable pub reply : Carrying → World → Line → Reply
 reply carry w Unreadable = unread w
 reply carry w (Boot d homes) = bootReply w d homes

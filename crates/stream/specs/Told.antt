@@ -1,15 +1,13 @@
--- How a line that is answered and printed takes the run on.
-use Prim.Native.Nat.{ℕ, zero, suc, _+_, _-_, _*_, _≤_, _<_, min}
+-- How a line of each kind is answered and printed.
+use Prim.Native.Nat.{ℕ, _+_, _*_, _≤_}
 use mathlib.Core.Path.{_≡_, refl, _∙_, sym, ap}
-use mathlib.Core.Bool.{Bool, true, false, not, cond, _&&_, true≢false}
-use mathlib.Core.List.{List, [], _∷_, _++_, foldl}
+use mathlib.Core.Bool.{Bool, true, false, cond}
+use mathlib.Core.List.{List, [], _∷_, _++_}
 use mathlib.Core.Option.{Option, none, some}
 use native.Mathlib.Omega.{arith}
-use lib.Dec.{leb, ltb, eqb}
-use lib.ListN.{length, take, replicate, length-take}
-use lib.Seq.{take-all}
-use borrow.Author.Tests.{le-leb, lt-leb, leb-true, leb-false, ltb-true, ltb-false, eq-eqb, ne-eqb, eqb-true, eqb-false}
-use Rattle.bounded.specs.Bools.{and-left, and-right, or-left, or-unless}
+use lib.Dec.{leb, eqb}
+use lib.ListN.{length, take, length-take}
+use borrow.Author.Tests.{le-leb, leb-true}
 use Rattle.state.specs.declared.State.{State}
 use Rattle.calls.specs.Answers.{numberOf, valueOf}
 use Rattle.calls.specs.View.{World, Judging, View, view, firstFailing}
@@ -29,31 +27,10 @@ use Rattle.lines.specs.declared.Line.{Line}
 use Rattle.lines.specs.declared.Line.the-variants.{Unreadable, Boot, Call}
 use Rattle.text.specs.Answer.{answerLine, printed, printedEnd, valuesFrom}
 use Rattle.text.specs.Size.{up-to-end, answer-length}
-use Rattle.stream.specs.Run.{Run, unread, called, stateAfter, homesOf, bootReply, reply, started, lastLine}
-use Rattle.stream.specs.Feed.{startFeed, runAt, runOf, finishedText, finishedEnd, roomFor, stopped, quickly, told}
-use Rattle.stream.specs.Held.{onHeld}
-use Rattle.stream.specs.Pieces.{flushed}
-use Rattle.stream.specs.declared.Feed.{Feed}
+use Rattle.stream.specs.Run.{unread, called, stateAfter, homesOf, bootReply, reply}
+use Rattle.stream.specs.Feed.{quickly, told}
 use Rattle.stream.specs.declared.Quick.{Quick}
 use Rattle.stream.specs.declared.Quick.the-variants.{Said}
-
-pub room-short : (length at : ℕ) → length < 273 → false ≡ roomFor length at
-room-short length at h =
-    let l : length < at + 273 = omega arith in
-    rw (lt-leb (at + 273) length l)
-
-pub room-long : (length at : ℕ) → 273 ≤ length → leb at (length - 273) ≡ roomFor length at
-room-long length at h = go (leb (at + 273) length) refl
-  where
-    go : (b : Bool) → leb (at + 273) length ≡ b → leb at (length - 273) ≡ b
-    go true e =
-        let l : at + 273 ≤ length = leb-true _ _ e in
-        let k : at ≤ length - 273 = omega arith in
-        le-leb at (length - 273) k
-    go false e =
-        let l : length < at + 273 = leb-false _ _ e in
-        let k : length - 273 < at = omega arith in
-        lt-leb at (length - 273) k
 
 -- an answer printed where there is room for the longest: the text goes on by it
 pub told-text : (out : List ℕ) (at number answer : ℕ) (vs : List ℕ) {out′ : List ℕ} {at′ : ℕ} → at + 273 ≤ length out → length vs ≤ 11
@@ -73,6 +50,16 @@ told-end out at number answer vs {at′} h l e =
 pub printed-told : (out : List ℕ) (at n answer : ℕ) (vs : List ℕ) (w : World) {out′ : List ℕ} {at′ : ℕ} → at + 273 ≤ length out → length vs ≤ 11
     → out′ ≡ printed out at n answer vs → at′ ≡ printedEnd out at n answer vs → told n out at out′ at′ w (record { number = answer; values = vs; world = w })
 printed-told out at n answer vs w h l p q = (told-text out at n answer vs h l p q, refl, told-end out at n answer vs h l q)
+
+-- what is put at the start of a buffer ends in it
+pub printed-within : (out : List ℕ) (number answer : ℕ) (vs : List ℕ) → printedEnd out 0 number answer vs ≤ length out
+printed-within out number answer vs = go (leb (0 + (42 + 21 * length vs)) (length out)) refl
+  where
+    go : (b : Bool) → leb (0 + (42 + 21 * length vs)) (length out) ≡ b → cond b (0 + length (answerLine number answer vs)) 0 ≤ length out
+    go true e =
+        let l : 0 + (42 + 21 * length vs) ≤ length out = leb-true _ _ e in
+        omega (arith, answer-length number answer vs)
+    go false e = omega arith
 
 -- an answer has at most eleven values
 pub values-few : (a : Answer) (f : Fields) → length (f .values) ≡ 11 → length (valuesFrom a f) ≤ 11
@@ -140,98 +127,6 @@ call-told s words out at n d c {o} {words′} {out′} {at′} e h p q =
     let v = values-few (o .answer) (o .fields) f in
     rw (← e)
     (told-text out at n (numberOf (o .answer)) (valuesFrom (o .answer) (o .fields)) h v p q, refl, told-end out at n (numberOf (o .answer)) (valuesFrom (o .answer) (o .fields)) h v q)
-
--- past the end of a list nothing more is taken
-pub take-clip : (s : List ℕ) (n : ℕ) → take (min n (length s)) s ≡ take n s
-take-clip s n = go (leb n (length s)) refl
-  where
-    go : (b : Bool) → leb n (length s) ≡ b → take (min n (length s)) s ≡ take n s
-    go true e =
-        let l : n ≤ length s = leb-true _ _ e in
-        let m : min n (length s) ≡ n = omega arith in
-        rw m
-    go false e =
-        let l : length s < n = leb-false _ _ e in
-        let m : min n (length s) ≡ length s = omega arith in
-        rw m (take-all (length s) s (omega arith) ∙ sym (take-all n s (omega arith)))
-
--- the program starts as the run does, with the header written
-pub start-run : (out : List ℕ) → runOf startFeed (replicate 8192 0) out ≡ flushed started
-unfolding started
-start-run out = refl
-
--- and writes the last line as the run does
-pub finish-writes : (f : Feed) (words out : List ℕ) → length (f .line) ≡ 201 → 273 ≤ length out
-    → take (finishedEnd f out) (finishedText f out) ≡ lastLine (runOf f words out)
-unfolding lastLine
-finish-writes f words out l h = go (eqb (f .held) 0) refl
-  where
-    go : (b : Bool) → eqb (f .held) 0 ≡ b
-        → take (cond b 0 (printedEnd out 0 (f .number) 1 (0 ∷ []))) (cond b out (printed out 0 (f .number) 1 (0 ∷ [])))
-        ≡ cond (eqb (length (take (f .held) (f .line))) 0) [] (answerLine (f .number) 1 (0 ∷ []))
-    go true e =
-        let z : f .held ≡ 0 = eqb-true _ _ e in
-        let n : length (take (f .held) (f .line)) ≡ 0 = omega (arith, length-take (f .held) (f .line)) in
-        rw (eq-eqb _ _ n)
-    go false e =
-        let z : f .held ≡ 0 → ⊥ = eqb-false _ _ e in
-        let n : length (take (f .held) (f .line)) ≡ 0 → ⊥ = (λ m. z (omega (arith, m, length-take (f .held) (f .line)))) in
-        rw (ne-eqb _ _ n) (told-text out 0 (f .number) 1 (0 ∷ []) h (omega arith) refl refl)
-
--- it ends in the buffer
-pub printed-within : (out : List ℕ) (number answer : ℕ) (vs : List ℕ) → printedEnd out 0 number answer vs ≤ length out
-printed-within out number answer vs = go (leb (0 + (42 + 21 * length vs)) (length out)) refl
-  where
-    go : (b : Bool) → leb (0 + (42 + 21 * length vs)) (length out) ≡ b → cond b (0 + length (answerLine number answer vs)) 0 ≤ length out
-    go true e =
-        let l : 0 + (42 + 21 * length vs) ≤ length out = leb-true _ _ e in
-        omega (arith, answer-length number answer vs)
-    go false e = omega arith
-
--- what is held and what is written, clipped to their room, is what they were
-pub clip-run : (s : State) (words : List ℕ) (number : ℕ) (line : List ℕ) (held : ℕ) (out : List ℕ) (at : ℕ) {held′ at′ : ℕ} → length line ≡ 201 → held′ ≡ min held 201 → at′ ≡ min at (length out)
-    → runAt s words number line held′ out at′ ≡ runAt s words number line held out at
-clip-run s words number line held out at {held′} {at′} l h a =
-    let e : take held′ line ≡ take held line = rw (h, ← l) (take-clip line held) in
-    let g : take at′ out ≡ take at out = rw a (take-clip out at) in
-    rw (e, g)
-
--- why the program stops
-pub stopped-at : (piece out taken at : ℕ) (room : Bool) → taken ≤ piece → room ≡ roomFor out at → (ltb taken piece && room) ≡ false → stopped piece out taken at ≡ true
-stopped-at piece out taken at room h e f = go (ltb taken piece) refl f
-  where
-    go : (b : Bool) → ltb taken piece ≡ b → (b && room) ≡ false → stopped piece out taken at ≡ true
-    go true l r = or-unless (eqb taken piece) (not (roomFor out at)) (λ z. rw (← e, r))
-    go false l r =
-        let k : piece ≤ taken = ltb-false _ _ l in
-        let n : taken ≡ piece = omega arith in
-        or-left (eqb taken piece) (not (roomFor out at)) (eq-eqb _ _ n)
-
-pub shorter : {end n : ℕ} → (end ≡ n → ⊥) → end ≤ n → end < n
-shorter e h = omega (arith, e)
-
--- what the loop's test tells
-pub still-more : (from piece : ℕ) (room : Bool) → (ltb from piece && room) ≡ true → from < piece
-still-more from piece room h = ltb-true from piece (and-left (ltb from piece) room h)
-
-pub still-room : (from piece out at : ℕ) (room : Bool) → (ltb from piece && room) ≡ true → room ≡ roomFor out at → at + 273 ≤ out
-still-room from piece out at room h e = leb-true (at + 273) out (sym e ∙ and-right (ltb from piece) room h)
-
--- with an empty buffer of room enough, some of a piece is taken
-pub feed-moves : (before : Run) (piece : List ℕ) (size : ℕ) (r : Feed) (words out : List ℕ) → before .text ≡ [] → 273 ≤ size → 0 < length piece
-    → runOf r words out ≡ foldl (onHeld checked) before (take (r .taken) piece) → length out ≡ size → r .at ≤ size
-    → stopped (length piece) size (r .taken) (r .at) ≡ true → 0 < r .taken
-feed-moves before piece size r words out z h l e k b s = go (r .taken) refl
-  where
-    go : (n : ℕ) → r .taken ≡ n → 0 < r .taken
-    go zero t =
-        let x : take (r .at) out ≡ before .text = rw t at (ap (λ (y : Run). y .text) e) in
-        let y : length (take (r .at) out) ≡ 0 = ap length (x ∙ z) in
-        let m : r .at ≡ 0 = omega (arith, y, length-take (r .at) out) in
-        let g : roomFor size (r .at) ≡ true = rw m (le-leb 273 size h) in
-        let n : eqb (r .taken) (length piece) ≡ false = rw t (ne-eqb 0 (length piece) (λ w. omega (arith, w))) in
-        absurd (true≢false (sym s ∙ rw (n, g)))
-    go (suc n) t = omega (arith, t)
 
 -- a line that leaves the state as it is, answered at once
 pub unread-quick : (s : State) (words : List ℕ) {l : Line} → l ≡ Unreadable → quickly (Said 1 0) s words words l

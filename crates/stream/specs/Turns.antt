@@ -1,16 +1,44 @@
 -- The program from start to finish: its functions, called one after the other, write what document 01 says.
 use Prim.Native.Nat.{ℕ, _≤_}
-use mathlib.Core.Path.{_≡_, _∙_, ap}
+use mathlib.Core.Path.{_≡_, _∙_, ap, refl}
 use mathlib.Core.List.{List, [], _∷_, _++_, foldl}
-use lib.ListN.{length, take, replicate}
+use mathlib.Core.Bool.{Bool, true, false, cond}
+use native.Mathlib.Omega.{arith}
+use lib.ListN.{length, take, replicate, length-take}
+use lib.Dec.{eqb}
+use borrow.Author.Tests.{eq-eqb, ne-eqb, eqb-true, eqb-false}
 use Rattle.calls.specs.Step.{checked}
-use Rattle.stream.specs.Run.{Run, header, started, lastLine, output}
+use Rattle.text.specs.Answer.{answerLine, printed, printedEnd}
+use Rattle.stream.specs.Run.{Run, header, started, lastLine, output, called}
 use Rattle.stream.specs.Held.{heldByte, onHeld}
-use Rattle.stream.specs.Pieces.{joined, writtenFor, written-flushed}
+use Rattle.stream.specs.Pieces.{joined, writtenFor, written-flushed, flushed}
 use Rattle.stream.specs.Program.{program-writes}
 use Rattle.stream.specs.Feed.{startFeed, runOf, finishedText, finishedEnd}
-use Rattle.stream.specs.Told.{start-run, finish-writes}
+use Rattle.stream.specs.Told.{told-text}
 use Rattle.stream.specs.declared.Feed.{Feed}
+
+-- the program starts as the run does, with the header written
+pub start-run : (out : List ℕ) → runOf startFeed (replicate 8192 0) out ≡ flushed started
+unfolding started
+start-run out = refl
+
+-- and writes the last line as the run does
+pub finish-writes : (f : Feed) (words out : List ℕ) → length (f .line) ≡ 201 → 273 ≤ length out
+    → take (finishedEnd f out) (finishedText f out) ≡ lastLine (runOf f words out)
+unfolding lastLine
+finish-writes f words out l h = go (eqb (f .held) 0) refl
+  where
+    go : (b : Bool) → eqb (f .held) 0 ≡ b
+        → take (cond b 0 (printedEnd out 0 (f .number) 1 (0 ∷ []))) (cond b out (printed out 0 (f .number) 1 (0 ∷ [])))
+        ≡ cond (eqb (length (take (f .held) (f .line))) 0) [] (answerLine (f .number) 1 (0 ∷ []))
+    go true e =
+        let z : f .held ≡ 0 = eqb-true _ _ e in
+        let n : length (take (f .held) (f .line)) ≡ 0 = omega (arith, length-take (f .held) (f .line)) in
+        rw (eq-eqb _ _ n)
+    go false e =
+        let z : f .held ≡ 0 → ⊥ = eqb-false _ _ e in
+        let n : length (take (f .held) (f .line)) ≡ 0 → ⊥ = (λ m. z (omega (arith, m, length-take (f .held) (f .line)))) in
+        rw (ne-eqb _ _ n) (told-text out 0 (f .number) 1 (0 ∷ []) h (omega arith) refl refl)
 
 -- the same with an empty buffer
 abbrev pub emptied : Feed → Feed

@@ -2,7 +2,7 @@ use Prim.Native.Nat.{_-_, _<_, _≤_}
 use mathlib.Core.Path.{_≡_, refl}
 use native.Mathlib.Omega.{arith}
 use lib.ListN.{length, take, drop, length-take, length-drop}
-use Rattle.stream.specs.Told.{feed-moves}
+use Rattle.stream.specs.Room.{feed-moves}
 use borrow.Author.Needs.{needs}
 use Rattle.monitor.proofs.answer_piece.Statement.{statement}
 use Rattle.monitor.proofs.answer_piece.Tie as tie

@@ -8,7 +8,8 @@ use Rattle.stream.specs.Run.{reply}
 use Rattle.stream.specs.Held.{heldByte, onHeld}
 use Rattle.stream.specs.Feeding.{Fed, fed-none, fed-part, fed-line, at-feed}
 use Rattle.stream.specs.Feed.{runAt}
-use Rattle.stream.specs.Told.{still-more, still-room, printed-told, clip-run, stopped-at, shorter}
+use Rattle.stream.specs.Told.{printed-told}
+use Rattle.stream.specs.Room.{still-more, still-room, clip-run, stopped-at, shorter}
 use borrow.Author.Needs.{needs}
 use Rattle.stream.proofs.feed_piece.Statement.{statement}
 use Rattle.stream.proofs.feed_piece.Tie as tie

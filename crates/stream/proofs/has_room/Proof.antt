@@ -1,4 +1,4 @@
-use Rattle.stream.specs.Told.{room-short, room-long}
+use Rattle.stream.specs.Room.{room-short, room-long}
 use Rattle.stream.proofs.has_room.Statement.{statement}
 use Rattle.stream.proofs.has_room.Tie as tie
 

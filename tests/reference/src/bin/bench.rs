@@ -110,8 +110,8 @@ impl Bench {
             speeds.push(speed);
         }
         println!(
-            "  ratio      {:>10.2} program to reference",
-            speeds[0] / speeds[1]
+            "  ratio      {:>10.2} times the reference's time",
+            speeds[1] / speeds[0]
         );
         Ok(())
     }
