@@ -1,55 +1,102 @@
-// The calls that access the store: RD, WR, EX and LK.
-use calls::Outcome;
+// The calls that access the store: RD, WR, EX and LK. An access leaves the state as it is.
+use calls::Access;
+use calls::Answer;
 use calls::Refusal;
-use calls::admits;
-use calls::refused;
-use state::State;
+use judge::Judgement;
+use judge::Target;
+use judge::judge;
+use rights::Rights;
+use state::Frame;
+use state::Table;
 ghost use mathlib.Core.Path.{_≡_};
-ghost use Rattle.calls.specs.Step.{world, result, step};
-ghost use Rattle.calls.specs.declared.Call.the-variants.{Read, Write, Execute, Lookup};
+ghost use lib.ListN.{length};
+ghost use Rattle.judge.specs.Judged.{judged};
+ghost use Rattle.judge.specs.declared.Target.the-variants.{Address};
+ghost use Rattle.calls.specs.Parts.{Answers};
+ghost use Rattle.calls.specs.declared.Access.the-variants.{Read, Write, Execute, Lookup};
+ghost use Rattle.access_calls.specs.Accessed.{accessedBy};
 
-// What each call answers after check 3.
-pub mod answers;
+// Whether rights at an address are granted: the address of the granting pair, or why not.
+enum Search {
+    Granted(u64),
+    Refused(Refusal),
+}
 
-// What each call does after check 3.
-pub mod checked;
+// An access for any rights: the address lies in the store (check 5), and the frame's Clists grant them (check 7).
+fn accessed(t: Table, store: &[u64], f: Frame, address: u64, wanted: Rights) -> Search
+    ensures { λ r. ⌜ r ≡ accessedBy (length (now (store .entry))) address (judged t (now (store .entry)) f (Address address) (wanted .bits)) ⌝ }
+{
+    if store.len() as u64 <= address {
+        return Search::Refused(Refusal::OutOfRange);
+    }
+    let Judgement::Granted(pair) = judge(t, store, f, Target::Address(address), wanted) else {
+        return Search::Refused(Refusal::NotGranted);
+    };
+    Search::Granted(pair)
+}
 
 // RD: the word at an address.
-pub fn read(s: State, store: &[u64], d: u64, address: u64) -> Outcome
-    ensures { λ r. ⌜ result r (now (store .entry)) ≡ step (world s (now (store .entry))) d (Read address) ⌝ }
+pub fn read(t: Table, store: &[u64], f: Frame, address: u64) -> Answer
+    ensures { λ r. ⌜ Answers t f (now (store .entry)) (Read address) r (now (store .entry)) ⌝ }
 {
-    if admits(s, store) {
-        return checked::read(s, store, d, address);
+    let found = accessed(t, store, f, address, Rights::READ);
+    match found {
+        Search::Granted(pair) => return Answer::Done(store[address as usize]),
+        Search::Refused(why) => return Answer::Refused(why),
     }
-    refused(s, Refusal::Unsound)
 }
 
 // WR: stores a word at an address.
-pub fn write(s: State, store: &mut [u64], d: u64, address: u64, value: u64) -> Outcome
-    ensures { λ r. ⌜ result r (now (store .exit)) ≡ step (world s (now (store .entry))) d (Write address value) ⌝ }
+pub fn write(t: Table, store: &mut [u64], f: Frame, address: u64, value: u64) -> Answer
+    ensures { λ r. ⌜ Answers t f (now (store .entry)) (Write address value) r (now (store .exit)) ⌝ }
 {
-    if admits(s, store) {
-        return checked::write(s, store, d, address, value);
+    let found = accessed(t, store, f, address, Rights::WRITE);
+    match found {
+        Search::Granted(pair) => {
+            store[address as usize] = value;
+            return Answer::Done(0);
+        }
+        Search::Refused(why) => return Answer::Refused(why),
     }
-    refused(s, Refusal::Unsound)
 }
 
 // EX: whether the word at an address may be executed.
-pub fn execute(s: State, store: &[u64], d: u64, address: u64) -> Outcome
-    ensures { λ r. ⌜ result r (now (store .entry)) ≡ step (world s (now (store .entry))) d (Execute address) ⌝ }
+pub fn execute(t: Table, store: &[u64], f: Frame, address: u64) -> Answer
+    ensures { λ r. ⌜ Answers t f (now (store .entry)) (Execute address) r (now (store .entry)) ⌝ }
 {
-    if admits(s, store) {
-        return checked::execute(s, store, d, address);
+    let found = accessed(t, store, f, address, Rights::EXECUTE);
+    match found {
+        Search::Granted(pair) => return Answer::Done(address),
+        Search::Refused(why) => return Answer::Refused(why),
     }
-    refused(s, Refusal::Unsound)
 }
 
 // LK: the address of the capability that grants rights at an address.
-pub fn apd_lookup(s: State, store: &[u64], d: u64, address: u64, rights: u64) -> Outcome
-    ensures { λ r. ⌜ result r (now (store .entry)) ≡ step (world s (now (store .entry))) d (Lookup address rights) ⌝ }
+pub fn apd_lookup(t: Table, store: &[u64], f: Frame, address: u64, rights: u64) -> Answer
+    ensures { λ r. ⌜ Answers t f (now (store .entry)) (Lookup address rights) r (now (store .entry)) ⌝ }
 {
-    if admits(s, store) {
-        return checked::apd_lookup(s, store, d, address, rights);
+    if rights == 0 {
+        return Answer::Refused(Refusal::OutOfRange);
     }
-    refused(s, Refusal::Unsound)
+    if 32 <= rights {
+        return Answer::Refused(Refusal::OutOfRange);
+    }
+    let wanted = Rights { bits: rights as u8 };
+    let found = accessed(t, store, f, address, wanted);
+    match found {
+        Search::Granted(pair) => return Answer::Done(pair),
+        Search::Refused(why) => return Answer::Refused(why),
+    }
+}
+
+// Any access by a frame.
+pub fn access(t: Table, store: &mut [u64], f: Frame, call: Access) -> Answer
+    ensures { λ r. ⌜ Answers t f (now (store .entry)) call r (now (store .exit)) ⌝ }
+{
+    match call {
+        Access::Read { address } => return read(t, store, f, address),
+        Access::Write { address, value } => return write(t, store, f, address, value),
+        Access::Execute { address } => return execute(t, store, f, address),
+        Access::Lookup { address, rights } => return apd_lookup(t, store, f, address, rights),
+    }
 }

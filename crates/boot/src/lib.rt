@@ -1,9 +1,11 @@
 // BT: the state and the store that a boot leaves.
+use calls::Answer;
+use calls::Caller;
 use calls::Outcome;
 use calls::Refusal;
-use calls::done;
-use calls::refused;
-use calls::zero_words;
+use calls::caller_of;
+use calls::replies::answered;
+use calls::words::zero_words;
 use state::Capability;
 use state::Domain;
 use state::Estate;
@@ -19,6 +21,7 @@ ghost use Prim.Native.Nat.{_<_};
 ghost use lib.ListN.{length};
 ghost use Rattle.calls.specs.Boot.{homeEstate, homeDomain, bootState, homePair, bootWords, homesOk, boot};
 ghost use Rattle.calls.specs.Step.{result};
+ghost use Rattle.calls.specs.Laws.Booted.{bootedBy};
 
 // The estate of domain d after a boot: its first page, with the home password.
 fn home_estate(homes: [u64; 4], d: usize) -> Estate
@@ -113,19 +116,25 @@ fn homes_ok(homes: [u64; 4]) -> bool
     (homes[0] != 0) & (homes[1] != 0) & (homes[2] != 0) & (homes[3] != 0)
 }
 
+// BT behind checks 2 and 4.
+fn booted(store: &mut [u64], homes: [u64; 4]) -> Outcome
+    requires { ⌜ length (now store) ≡ 8192 ⌝ }
+    ensures { λ r. ⌜ result r (now (store .exit)) ≡ bootedBy (now (store .entry)) homes ⌝ }
+{
+    if !homes_ok(homes) {
+        return answered(empty_state(), Answer::Refused(Refusal::OutOfRange));
+    }
+    boot_words(store, homes);
+    answered(boot_state(homes), Answer::Done(0))
+}
+
 // BT by a domain, with the home passwords of the four domains.
 pub fn boot(store: &mut [u64], d: u64, homes: [u64; 4]) -> Outcome
     ensures { λ r. ⌜ result r (now (store .exit)) ≡ boot (now (store .entry)) d homes ⌝ }
 {
-    if store.len() != 8192 {
-        return refused(empty_state(), Refusal::StoreLength);
+    let caller = caller_of(store.len(), d);
+    match caller {
+        Caller::Known(k) => return booted(store, homes),
+        Caller::Refused(why) => return answered(empty_state(), Answer::Refused(why)),
     }
-    if 4 <= d {
-        return refused(empty_state(), Refusal::NoDomain);
-    }
-    if !homes_ok(homes) {
-        return refused(empty_state(), Refusal::OutOfRange);
-    }
-    boot_words(store, homes);
-    done(boot_state(homes), 0)
 }

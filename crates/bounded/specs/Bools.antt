@@ -49,6 +49,11 @@ pub flag : (b : Bool) → (b ≡ true) ⊎ (b ≡ false)
 flag true = inl refl
 flag false = inr refl
 
+-- a choice between the same
+pub cond-same : {A : Type 0} (b : Bool) (x : A) → cond b x x ≡ x
+cond-same true x = refl
+cond-same false x = refl
+
 -- what holds of both choices, each under its test, holds of the choice
 pub cond-ind : {A : Type 0} (P : A → Type 0) (b : Bool) (x y : A) → (b ≡ true → P x) → (b ≡ false → P y) → P (cond b x y)
 cond-ind P true x y f g = f refl

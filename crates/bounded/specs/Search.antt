@@ -38,6 +38,29 @@ module _ {A : Type 0} {test : ℕ → Bool} {value : ℕ → A} {none : A} {n i 
   pub over : n ≤ i → none ≡ first test value none 0 n
   over h = sym (s .rest ∙ first-end test value none i n h)
 
+-- no place from `a` up to `b`, `b` itself left out, passes the test
+pub record Skipped (test : ℕ → Bool) (a b : ℕ) : Type 0 where
+  pub upward : a ≤ b
+  pub fails : (k : ℕ) → a ≤ k → k < b → test k ≡ false
+
+pub skipped-none : {test : ℕ → Bool} {a : ℕ} → Skipped test a a
+skipped-none = record { upward = omega arith; fails = λ k l h. absurd (omega arith) }
+
+pub skipped-more : {test : ℕ → Bool} {a b : ℕ} → Skipped test a b → test b ≡ false → Skipped test a (b + 1)
+skipped-more {test} {a} {b} s e =
+    record { upward = omega arith; fails = λ k l h. ⊎-elim (λ q. rw q e) (λ ne. s .fails k l (omega arith)) (same-or-not k b) }
+
+-- what a loop that searches knows once it has passed over places that fail
+pub skip : {A : Type 0} {test : ℕ → Bool} {value : ℕ → A} {none : A} {n i j : ℕ}
+    → Searching test value none n i → Skipped test i j → j ≤ n → Searching test value none n j
+skip {A} {test} {value} {none} {n} {i} {j} s g h = let e : i + (j - i) ≡ j = omega arith in rw e at (go (j - i) (omega arith))
+  where
+    go : (m : ℕ) → i + m ≤ j → Searching test value none n (i + m)
+    go ℕ.zero l = let e : i + 0 ≡ i = omega arith in rw e s
+    go (suc m) l =
+        let e : i + suc m ≡ i + m + 1 = omega arith in
+        rw e (next (go m (omega arith)) (omega arith) (g .fails (i + m) (omega arith) (omega arith)))
+
 -- `a` is the value at a place that passes the test, and no place before it passes
 pub record FirstAt {A : Type 0} (test : ℕ → Bool) (value : ℕ → A) (i n : ℕ) (a : A) : Type 0 where
   pub place : ℕ

@@ -1,4 +1,4 @@
--- The paper's number and values for each answer: document 01, "In checking order" and "The call program".
+-- Each answer as numbers: that of document 01, "In checking order", and what stands behind it.
 use Prim.Native.Nat.{ℕ}
 use mathlib.Core.Bool.{cond}
 use mathlib.Core.List.{List, [], _∷_}
@@ -24,12 +24,12 @@ refusalNumber HasPassword = 10
 refusalNumber Full = 11
 refusalNumber Missing = 12
 
--- "an answer number (0 is done)"
+-- a done call answers 0
 abbrev pub numberOf : Answer → ℕ
 numberOf (Done value) = 0
 numberOf (Refused r) = refusalNumber r
 
--- "a value (0 unless named)"
+-- a refused one gives the value 0
 abbrev pub valueOf : Answer → ℕ
 valueOf (Done value) = value
 valueOf (Refused r) = 0
@@ -37,6 +37,6 @@ valueOf (Refused r) = 0
 abbrev pub noFields : Fields
 noFields = record { count = 0; values = replicate 11 0 }
 
--- what a line of the program prints behind the number: "GT, when done, prints its fields in place of the value"
+-- what stands behind the number: the value, or the fields of a done GT
 abbrev pub valuesOf : Outcome → List ℕ
 valuesOf o = cond (eqb (o .fields .count) 0) (valueOf (o .answer) ∷ []) (take (o .fields .count) (o .fields .values))

@@ -1,4 +1,4 @@
--- BT: document 01, "BT home passwords of domains 0 to 3".
+-- BT: document 01, "The calls".
 use Prim.Native.Nat.{ℕ, _+_, _*_}
 use mathlib.Core.Bool.{Bool, not}
 use mathlib.Core.List.{List, [], _∷_}
@@ -21,11 +21,11 @@ use Rattle.calls.specs.declared.Refusal.the-variants.{NoDomain, OutOfRan
 abbrev pub homeOf : List ℕ → ℕ → ℕ
 homeOf homes d = getD homes d 0
 
--- "give each domain one object, its estate's first page, with its home password in mode 15"
+-- each domain has one object, the first page of its estate, with its home password in the owner's mode
 unfoldable pub homeEstate : List ℕ → ℕ → Estate
 homeEstate homes d = record { objects = newObject (32 * d) 1 (homeOf homes d) ∷ replicate 7 freeObject }
 
--- "slot 0 names it by that password"; "No locks, nothing saved."
+-- its one slot names that object and shows that password; no locks, nothing saved
 unfoldable pub homeDomain : List ℕ → ℕ → Domain
 homeDomain homes d =
     record { active = onlyList (record { page = 32 * d; password = homeOf homes d }); saved = replicate 4 emptyFrame; depth = 0 }
@@ -33,20 +33,20 @@ homeDomain homes d =
 unfoldable pub bootState : List ℕ → State
 bootState homes = record { table = record { estates = tabulate 4 (homeEstate homes) }; domains = tabulate 4 (homeDomain homes) }
 
--- "its first pair is base × 256 + 15 and that password"
+-- the first pair of the object names it too
 unfoldable pub homePair : List ℕ → ℕ → List ℕ → List ℕ
 homePair homes d words = set (set words (2048 * d) (32 * d * 256 + 15)) (2048 * d + 1) (homeOf homes d)
 
--- "zero the store"
+-- all other words are zero
 unfoldable pub bootWords : List ℕ → List ℕ
 bootWords homes = homePair homes 3 (homePair homes 2 (homePair homes 1 (homePair homes 0 (replicate 8192 0))))
 
--- "A refused boot gives the state with no objects and no slots, store unchanged"
+-- a refused boot gives the empty state, and the store as it was
 abbrev pub booted : List ℕ → List ℕ → Option Refusal → Result
 booted homes words none = result (doneWith (bootState homes) 0) (bootWords homes)
 booted homes words (some r) = refused (world emptyState words) r
 
--- 5. "a zero password in BT"
+-- 5: no home password is zero
 unfoldable pub homesOk : List ℕ → Bool
 homesOk homes = below 4 (λ k. not (eqb (homeOf homes k) 0))
 

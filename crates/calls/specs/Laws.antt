@@ -1,4 +1,5 @@
-pub mod Checked
+-- The laws of the calls.
+pub mod Unchecked
 pub mod Returns
 pub mod Order
 pub mod Passed
@@ -8,3 +9,6 @@ pub mod Booted
 pub mod Agree
 pub mod Places
 pub mod Zeroed
+pub mod Parts
+pub mod Told
+pub mod Based

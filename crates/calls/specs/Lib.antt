@@ -1,12 +1,10 @@
 pub mod Answers
 pub mod Arguments
 pub mod View
-pub mod Checks
 pub mod Changes
+pub mod Rule
+pub mod Rules
 pub mod Step
+pub mod Parts
 pub mod Boot
-pub mod Runs
-pub mod Marked
-pub mod Nested
-pub mod Locks
 pub mod Laws

@@ -5,13 +5,13 @@ use mathlib.Core.List.{List, _∷_}
 use mathlib.Core.Option.{Option, none, some}
 use lib.Dec.{eqb}
 use lib.ListN.{length}
-use Rattle.state.specs.Sound.{sound}
+use Rattle.soundness.specs.Sound.{sound}
 use Rattle.state.specs.declared.State.{State}
 use Rattle.judge.specs.Judged.{judged}
-use Rattle.calls.specs.Answers.{noFields}
-use Rattle.calls.specs.View.{World, Judging, View, view, Check, check, firstFailing}
-use Rattle.calls.specs.Checks.{checks}
-use Rattle.calls.specs.Changes.{value, fields, changes, applyAll}
+use Rattle.calls.specs.Answers.{noFields, numberOf, valuesOf}
+use Rattle.calls.specs.View.{World, Judging, View, Check, check, firstFailing}
+use Rattle.calls.specs.Changes.{applyAll}
+use Rattle.calls.specs.Rules.{view, checks, value, fields, changes}
 use Rattle.calls.specs.declared.Call.{Call}
 use Rattle.calls.specs.declared.Refusal.{Refusal}
 use Rattle.calls.specs.declared.Refusal.the-variants.{StoreLength, Unsound}
@@ -33,11 +33,15 @@ result o words = record { outcome = o; words = words }
 abbrev pub worldOf : Result → World
 worldOf r = world (r .outcome .state) (r .words)
 
+-- the answer as numbers: the paper's number, then its values
+abbrev pub answerOf : Result → List ℕ
+answerOf r = numberOf (r .outcome .answer) ∷ valuesOf (r .outcome)
+
 -- an answer without fields, with the state after it
 abbrev pub answeredWith : State → Answer → Outcome
 answeredWith s a = record { answer = a; fields = noFields; state = s }
 
--- "A refused call gives its number and the value 0 and changes no word, table, slot, lock or saved domain."
+-- a refused call changes nothing
 abbrev pub refusedWith : State → Refusal → Outcome
 refusedWith s r = answeredWith s (Refused r)
 
@@ -57,11 +61,11 @@ abbrev pub concluded : Option Refusal → World → ℕ → Call → View → Re
 concluded none w d c v = done w d c v
 concluded (some r) w d c v = refused w r
 
--- 2. "The store's length is not 8,192 words."
+-- 2: the store has 8,192 words
 abbrev pub storeCheck : World → Check
 storeCheck w = check StoreLength (eqb (length (w .words)) 8192)
 
--- 3. "The state is not sound"
+-- 3: the state is sound
 abbrev pub soundCheck : World → Check
 soundCheck w = check Unsound (sound (w .state))
 
@@ -70,17 +74,17 @@ unfoldable pub stepBy : Judging → World → ℕ → Call → Result
 stepBy judging w d c =
     concluded (firstFailing (storeCheck w ∷ soundCheck w ∷ checks d c (view judging w d c))) w d c (view judging w d c)
 
--- the same without check 3
-unfoldable pub checkedBy : Judging → World → ℕ → Call → Result
-checkedBy judging w d c = concluded (firstFailing (storeCheck w ∷ checks d c (view judging w d c))) w d c (view judging w d c)
+-- the same with check 3 left out
+unfoldable pub uncheckedBy : Judging → World → ℕ → Call → Result
+uncheckedBy judging w d c = concluded (firstFailing (storeCheck w ∷ checks d c (view judging w d c))) w d c (view judging w d c)
 
 -- what every call does
 abbrev pub step : World → ℕ → Call → Result
 step = stepBy judged
 
--- what every call does after check 3
-abbrev pub checked : World → ℕ → Call → Result
-checked = checkedBy judged
+-- what every call does where check 3 is left out, since the state is known to be sound
+abbrev pub unchecked : World → ℕ → Call → Result
+unchecked = uncheckedBy judged
 
 -- check 3 passes, or is not reached
 unfoldable pub admitted : World → Bool

@@ -1,29 +1,32 @@
 // The calls of the monitor.
+use soundness::sound;
+use state::Domain;
+use state::Estate;
 use state::State;
-use state::soundness::sound;
 ghost use mathlib.Core.Path.{_≡_};
-ghost use Prim.Native.Nat.{_+_, _≤_};
-ghost use lib.ListN.{length};
-ghost use Rattle.calls.specs.Answers.{noFields};
-ghost use Rattle.calls.specs.Changes.{zeroed, zeroedWithin};
-ghost use Rattle.calls.specs.Step.{world, answeredWith, refusedWith, doneWith, admitted};
+ghost use Rattle.calls.specs.Step.{world, admitted};
+ghost use Rattle.calls.specs.Parts.{callerOf};
 
-// A call with its arguments, as they come.
+pub mod replies;
+pub mod words;
+
+// A call with its arguments, as they come, by what it works on.
 pub enum Call {
-    Read {
-        address: u64,
-    },
-    Write {
-        address: u64,
-        value: u64,
-    },
-    Execute {
-        address: u64,
-    },
-    Lookup {
-        address: u64,
-        rights: u64,
-    },
+    OnStore(Access),
+    OnObject(ObjectCall),
+    OnDomain(DomainCall),
+}
+
+// Accesses to the store: RD, WR, EX, LK.
+pub enum Access {
+    Read { address: u64 },
+    Write { address: u64, value: u64 },
+    Execute { address: u64 },
+    Lookup { address: u64, rights: u64 },
+}
+
+// Calls on objects: CR, DL, AP, DP, RG.
+pub enum ObjectCall {
     Create {
         page: u64,
         pages: u64,
@@ -47,21 +50,15 @@ pub enum Call {
         list: Presented,
         entries: Entries,
     },
-    Insert {
-        slot: u64,
-        list: Presented,
-    },
-    Remove {
-        slot: u64,
-    },
+}
+
+// Calls on the caller's protection domain: IN, RM, GT, LO, CA, RT.
+pub enum DomainCall {
+    Insert { slot: u64, list: Presented },
+    Remove { slot: u64 },
     Get,
-    Lock {
-        slot: u64,
-    },
-    PdxCall {
-        entry: u64,
-        choice: u64,
-    },
+    Lock { slot: u64 },
+    PdxCall { entry: u64, choice: u64 },
     PdxReturn,
 }
 
@@ -113,47 +110,37 @@ pub struct Outcome {
     pub state: State,
 }
 
-// No fields.
-pub fn no_fields() -> Fields
-    ensures { λ r. ⌜ r ≡ noFields ⌝ }
-{
-    Fields {
-        count: 0,
-        values: [0; 11],
-    }
+// The answer of a call on objects, beside an estate: the one that it changed, or one as it is where it changed none.
+pub struct Altered {
+    pub answer: Answer,
+    pub place: usize,
+    pub estate: Estate,
 }
 
-// An answer without fields, with the state after it.
-pub fn answered(s: State, a: Answer) -> Outcome
-    ensures { λ r. ⌜ r ≡ answeredWith s a ⌝ }
-{
-    Outcome {
-        answer: a,
-        fields: no_fields(),
-        state: s,
-    }
+// The answer of a call on the caller's domain, beside that domain.
+pub struct Moved {
+    pub answer: Answer,
+    pub fields: Fields,
+    pub domain: Domain,
 }
 
-// A refusal: the state as it came.
-pub fn refused(s: State, why: Refusal) -> Outcome
-    ensures { λ r. ⌜ r ≡ refusedWith s why ⌝ }
-{
-    Outcome {
-        answer: Answer::Refused(why),
-        fields: no_fields(),
-        state: s,
-    }
+// Who calls: a domain below 4, with a store of the right length, or why the call is refused.
+pub enum Caller {
+    Known(usize),
+    Refused(Refusal),
 }
 
-// A done call with its value and the state after it.
-pub fn done(s: State, value: u64) -> Outcome
-    ensures { λ r. ⌜ r ≡ doneWith s value ⌝ }
+// Checks 2 and 4.
+pub fn caller_of(words: usize, d: u64) -> Caller
+    ensures { λ r. ⌜ r ≡ callerOf words d ⌝ }
 {
-    Outcome {
-        answer: Answer::Done(value),
-        fields: no_fields(),
-        state: s,
+    if words != 8192 {
+        return Caller::Refused(Refusal::StoreLength);
     }
+    if 4 <= d {
+        return Caller::Refused(Refusal::NoDomain);
+    }
+    Caller::Known(d as usize)
 }
 
 // Whether check 3 passes, or is not reached.
@@ -161,30 +148,4 @@ pub fn admits(s: State, store: &[u64]) -> bool
     ensures { λ r. ⌜ r ≡ admitted (world s (now (store .entry))) ⌝ }
 {
     (store.len() != 8192) | sound(s)
-}
-
-// n words from `start` on become 0.
-fn zero_run(store: &mut [u64], start: usize, n: usize)
-    requires { ⌜ start + n ≤ length (now store) ⌝ }
-    ensures { λ _. ⌜ now (store .exit) ≡ zeroed start n (now (store .entry)) ⌝ }
-{
-    let mut i = 0;
-    while i < n {
-        store[start + i] = 0;
-        i += 1;
-    }
-}
-
-// The same where they lie in the store; else nothing changes.
-pub fn zero_words(store: &mut [u64], start: usize, n: usize)
-    ensures { λ _. ⌜ now (store .exit) ≡ zeroedWithin start n (now (store .entry)) ⌝ }
-{
-    let length = store.len();
-    if length < start {
-        return;
-    }
-    if length - start < n {
-        return;
-    }
-    zero_run(store, start, n);
 }

@@ -7,15 +7,16 @@ use mathlib.Core.Option.{Option, none, some}
 use lib.Dec.{leb, ltb}
 use borrow.Author.Tests.{leb-false, lt-ltb}
 use Rattle.bounded.specs.Every.{below}
-use Rattle.state.specs.Sound.{covers}
+use Rattle.state.specs.Extent.{covers}
 use Rattle.judge.specs.Judged.{judged}
-use Rattle.calls.specs.Arguments.{entriesAll, inRange}
-use Rattle.calls.specs.View.{World, View, firstFailing, unlocked, view, early}
-use Rattle.calls.specs.Checks.{objectOf, late, checks}
-use Rattle.calls.specs.Changes.{registration, changes}
-use Rattle.calls.specs.Step.{concluded, storeCheck, checkedBy, checked}
+use Rattle.calls.specs.Arguments.{entriesAll}
+use Rattle.calls.specs.View.{World, View, firstFailing, objectOf}
+use Rattle.calls.specs.Changes.{registration}
+use Rattle.calls.specs.Rules.{rule, inRange, unlocked, view, early, late, checks, changes}
+use Rattle.calls.specs.Step.{concluded, storeCheck, uncheckedBy, unchecked}
 use Rattle.calls.specs.declared.Call.{Call}
-use Rattle.calls.specs.declared.Call.the-variants.{Read, Write, Execute, Lookup, Create, Delete, AddPassword, DropPassword, Register, Insert, Remove, Get, Lock, PdxCall, PdxReturn}
+use Rattle.calls.specs.declared.Call.the-variants.{OnStore, OnObject, OnDomain}
+use Rattle.calls.specs.declared.ObjectCall.the-variants.{Create, Delete, AddPassword, DropPassword, Register}
 use Rattle.calls.specs.declared.Presented.{Presented}
 use Rattle.calls.specs.declared.Refusal.{Refusal}
 use Rattle.calls.specs.declared.Entries.{Entries}
@@ -50,47 +51,39 @@ registration-kept k l es = simp cond-cond
 
 -- RG is checked and done alike
 module _ (b k : ℕ) (l : Presented) (es : Entries) (d : ℕ) where
-  abbrev given : Call
-  given = Register b k l es
+  abbrev pub given : Call
+  given = OnObject (Register b k l es)
 
-  abbrev bare : Call
-  bare = Register b k l (keptEntries es)
+  abbrev pub stripped : Call
+  stripped = OnObject (Register b k l (keptEntries es))
 
-  range-kept : inRange bare ≡ inRange given
+  range-kept : inRange stripped ≡ inRange given
   unfolding inRange
   range-kept = rw (entries-kept (λ a. ltb a 8192) es)
 
-  view-kept : (w : World) → view judged w d bare ≡ view judged w d given
-  unfolding view early unlocked
-  view-kept w = rw range-kept
+  pub view-kept : (w : World) → view judged w d stripped ≡ view judged w d given
+  unfolding view rule
+  view-kept w = refl
 
-  checks-kept : (v : View) → checks d bare v ≡ checks d given v
+  checks-kept : (v : View) → checks d stripped v ≡ checks d given v
   unfolding checks early unlocked late
   checks-kept v = rw (range-kept, entries-kept (λ a. covers (objectOf (v .found)) (a / 64)) es)
 
-  concluded-kept : (o : Option Refusal) (w : World) (v : View) → concluded o w d bare v ≡ concluded o w d given v
+  concluded-kept : (o : Option Refusal) (w : World) (v : View) → concluded o w d stripped v ≡ concluded o w d given v
   unfolding changes
   concluded-kept none w v = rw (registration-kept k l es)
   concluded-kept (some r) w v = refl
 
-  register-kept : (w : World) → checked w d bare ≡ checked w d given
-  unfolding checkedBy
+  register-kept : (w : World) → unchecked w d stripped ≡ unchecked w d given
+  unfolding uncheckedBy
   register-kept w = rw (view-kept w, checks-kept (view judged w d given)) (concluded-kept (firstFailing (storeCheck w ∷ checks d given (view judged w d given))) w (view judged w d given))
 
 -- A call does what it does with the surplus blanked.
-pub checked-blanked : (w : World) (d : ℕ) (c : Call) → checked w d (blanked c) ≡ checked w d c
-checked-blanked w d (Read a) = refl
-checked-blanked w d (Write a v) = refl
-checked-blanked w d (Execute a) = refl
-checked-blanked w d (Lookup a r) = refl
-checked-blanked w d (Create p n k) = refl
-checked-blanked w d (Delete b) = refl
-checked-blanked w d (AddPassword b k m) = refl
-checked-blanked w d (DropPassword b k) = refl
-checked-blanked w d (Register b k l es) = register-kept b k l es d w
-checked-blanked w d (Insert i l) = refl
-checked-blanked w d (Remove i) = refl
-checked-blanked w d Get = refl
-checked-blanked w d (Lock i) = refl
-checked-blanked w d (PdxCall a ch) = refl
-checked-blanked w d PdxReturn = refl
+pub unchecked-blanked : (w : World) (d : ℕ) (c : Call) → unchecked w d (blanked c) ≡ unchecked w d c
+unchecked-blanked w d (OnStore c) = refl
+unchecked-blanked w d (OnObject (Create p n k)) = refl
+unchecked-blanked w d (OnObject (Delete b)) = refl
+unchecked-blanked w d (OnObject (AddPassword b k m)) = refl
+unchecked-blanked w d (OnObject (DropPassword b k)) = refl
+unchecked-blanked w d (OnObject (Register b k l es)) = register-kept b k l es d w
+unchecked-blanked w d (OnDomain c) = refl

@@ -1,4 +1,4 @@
--- Demand 3: one claim about two whole runs.
+-- Demand 3: one claim about two whole runs, by document 01, "Two runs and a group".
 use Prim.Native.Nat.{ℕ, _<_}
 use mathlib.Core.Path.{_≡_}
 use mathlib.Core.Bool.{true}
@@ -15,21 +15,21 @@ use Rattle.isolation.specs.Group.{Group, member, insidePage, insideAddre
 use Rattle.isolation.specs.Runs.{Run, bootOf, startOf, final, answers, membersCalls}
 use Rattle.isolation.specs.Premises.{Premises}
 
--- "each member's slots in order, locked count, whole lock"
+-- the same slots in use, in order, and the same locks
 pub record SameFrame (f f′ : Frame) : Type 0 where
   pub count : f .count ≡ f′ .count
   pub slot : (k : ℕ) → k < f .count → slotAt f k ≡ slotAt f′ k
   pub locked : f .locked ≡ f′ .locked
   pub whole : f .whole ≡ f′ .whole
 
--- "and saved domains in order"
+-- the same active frame, and the same saved ones, in order
 pub record SameDomain (m m′ : Domain) : Type 0 where
   pub active : SameFrame (m .active) (m′ .active)
   pub depth : m .depth ≡ m′ .depth
   pub saved : (k : ℕ) → k < m .depth → SameFrame (savedAt m k) (savedAt m′ k)
 
--- "in the last states and stores, each word of the members' estates, in an object or not; the inside objects, each by base, page
--- count, ordinary passwords with modes, registration ..; and each member's slots .."
+-- the same inside: every word of the members' estates, whether an object has it or not; every object there, wherever it is stored;
+-- and every member's domain
 pub record SameInside (G : Group) (w w′ : World) : Type 0 where
   pub words : (a : ℕ) → insideAddress G a ≡ true → getD (w .words) a 0 ≡ getD (w′ .words) a 0
   pub objects : (base : ℕ) → insidePage G base ≡ true → SameObject (objectBased (w .state .table) base) (objectBased (w′ .state .table) base)
@@ -44,7 +44,7 @@ pub record Comparable (G : Group) (r r′ : Run) : Type 0 where
   pub premises : Premises G r
   pub premises′ : Premises G r′
 
--- what then holds: "members get the same answers and end with the same words, objects, slots, locks and saved domains"
+-- what then holds: the members are answered alike, and at the end all that is inside is the same
 pub record Isolated (G : Group) (r r′ : Run) : Type 0 where
   pub same-answers : answers G (startOf r) (r .events) ≡ answers G (startOf r′) (r′ .events)
   pub same-inside : SameInside G (final (startOf r) (r .events)) (final (startOf r′) (r′ .events))

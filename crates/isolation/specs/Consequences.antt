@@ -11,26 +11,26 @@ use lib.ListN.{List·getD-eq-default, getD-replicate}
 use borrow.Author.Tests.{ltb-false, eqb-true, lt-ltb}
 use Rattle.bounded.specs.Bools.{and-right, and-no, or-unless, flag}
 use Rattle.state.specs.Places.{noPassword, noEstate, freeObject}
-use Rattle.state.specs.Sound.{sound}
 use Rattle.state.specs.Lookup.{objectBased, placeOf, hasPassword}
-use Rattle.state.specs.Laws.Parts.{state-parts}
-use Rattle.state.specs.Laws.Lookup.{Ordinary, has-parts, based-none}
+use Rattle.state.specs.Laws.Passwords.{Ordinary, has-parts}
+use Rattle.state.specs.Laws.Lookup.{based-none}
+use Rattle.soundness.specs.Sound.{sound}
+use Rattle.soundness.specs.Laws.StateParts.{state-parts}
 use Rattle.state.specs.declared.State.{State}
 use Rattle.calls.specs.Answers.{numberOf}
-use Rattle.calls.specs.Arguments.{presented}
-use Rattle.calls.specs.View.{World, early}
-use Rattle.calls.specs.Checks.{checks}
+use Rattle.calls.specs.View.{World}
+use Rattle.calls.specs.Rule.{Touch, touchesNothing, touchesWord, touchesObject, touchesSlots}
+use Rattle.calls.specs.Rules.{touched, presented, early, checks}
 use Rattle.calls.specs.Step.{worldOf, step}
 use Rattle.calls.specs.Boot.{homeOf}
 use Rattle.calls.specs.Laws.Order.{done-hold}
 use Rattle.calls.specs.Laws.Booted.{boot-sound}
 use Rattle.calls.specs.Laws.Sound.{step-sound}
 use Rattle.calls.specs.declared.Call.{Call}
-use Rattle.calls.specs.declared.Call.the-variants.{Read, Write, Execute, Lookup, Create, Delete, AddPassword, DropPassword, Register, Insert, Remove, Get, Lock, PdxCall, PdxReturn}
 use Rattle.calls.specs.declared.Presented.{Presented}
 use Rattle.isolation.specs.Group.{Group, member}
 use Rattle.isolation.specs.Runs.{Event, Run, bootOf, startOf, resultOf, membersOnly, membersCalls}
-use Rattle.isolation.specs.Premises.{staysInside, HeldInside, changesInside}
+use Rattle.isolation.specs.Premises.{staysInside, HeldInside, touchesInside, changesInside}
 use Rattle.isolation.specs.Claim.{Isolated}
 use Rattle.isolation.specs.Members.{member-below}
 use Rattle.isolation.specs.Theorem.{isolation}
@@ -85,22 +85,14 @@ nobody-calls [] = refl
 nobody-calls (e ∷ es) = rw (nobody-member (e .domain)) (nobody-calls es)
 
 -- and nothing inside, so no outsider's call is a change inside
+nobody-touches : (x : Touch) → touchesInside nobody x ≡ false
+nobody-touches touchesNothing = refl
+nobody-touches (touchesWord a) = nobody-member _
+nobody-touches (touchesObject b) = nobody-member _
+nobody-touches touchesSlots = refl
+
 nobody-changes : (c : Call) → changesInside nobody c ≡ false
-nobody-changes (Read a) = refl
-nobody-changes (Write a v) = nobody-member _
-nobody-changes (Execute a) = refl
-nobody-changes (Lookup a r) = refl
-nobody-changes (Create p n k) = refl
-nobody-changes (Delete b) = nobody-member _
-nobody-changes (AddPassword b k m) = nobody-member _
-nobody-changes (DropPassword b k) = nobody-member _
-nobody-changes (Register b k l es) = nobody-member _
-nobody-changes (Insert i l) = refl
-nobody-changes (Remove i) = refl
-nobody-changes Get = refl
-nobody-changes (Lock i) = refl
-nobody-changes (PdxCall a ch) = refl
-nobody-changes PdxReturn = refl
+nobody-changes c = nobody-touches (touched c)
 
 nobody-meets : (es : List Event) (w : World) → CallsAlong nobody w es
 nobody-meets [] w = tt

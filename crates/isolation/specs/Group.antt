@@ -1,17 +1,17 @@
--- A group and what is inside: document 01, "Two runs and a group". "Group" and "circle" are the paper's words.
+-- A group, which the paper also calls a circle, and what is inside: document 01, "Two runs and a group".
 use Prim.Native.Nat.{ℕ, _/_}
 use mathlib.Core.Bool.{Bool, _&&_}
 use lib.Dec.{ltb}
 
--- "A group, or circle, is any set of domains, none and all four included"
+-- any set of domains, the empty and the full one too
 pub record Group : Type 0 where
   pub domains : ℕ → Bool
 
--- "these are its members. Every other domain number, above 3 too, is an outsider."
+-- a member is one of the four domains that is in the set; any other number is an outsider's
 unfoldable pub member : Group → ℕ → Bool
 member G d = ltb d 4 && G .domains d
 
--- "An object or address is inside when it lies in a member's estate, else outside."
+-- a page or an address is inside where the estate that it lies in is a member's; an object is where its base is
 abbrev pub insidePage : Group → ℕ → Bool
 insidePage G page = member G (page / 32)
 

@@ -13,4 +13,3 @@ pub mod Start
 pub mod Theorem
 pub mod Slots
 pub mod Consequences
-pub mod Examples

@@ -10,26 +10,25 @@ use Rattle.state.specs.declared.Table.{Table}
 use Rattle.state.specs.declared.Frame.{Frame}
 use Rattle.judge.specs.Laws.Pairs.{pairsAt, firstWord, secondWord}
 use Rattle.calls.specs.Answers.{numberOf}
-use Rattle.calls.specs.Arguments.{Want, nothing, rights, wanted, presented}
-use Rattle.calls.specs.View.{World, firstFailing, early}
+use Rattle.calls.specs.View.{Want, nothing, rights, World, firstFailing}
+use Rattle.calls.specs.Rule.{Touch, touchesNothing, touchesWord, touchesObject, touchesSlots}
+use Rattle.calls.specs.Rules.{touched, wanted, presented, early}
 use Rattle.calls.specs.Step.{worldOf}
 use Rattle.calls.specs.declared.Call.{Call}
-use Rattle.calls.specs.declared.Call.the-variants.{Read, Write, Execute, Lookup, Create, Delete, AddPassword, DropPassword, Register, Insert, Remove, Get, Lock, PdxCall, PdxReturn}
 use Rattle.calls.specs.declared.Presented.{Presented}
 use Rattle.isolation.specs.Group.{Group, member, insidePage, insideAddress}
 use Rattle.isolation.specs.Runs.{Event, Run, startOf, resultOf}
 
--- "A capability is true for an object when its page is the base and its password is one of that object's": for no object outside
+-- a capability is true for no outside object: its page is inside, or no object with that base has its password
 unfoldable pub staysInside : Group → Table → ℕ → ℕ → Bool
 staysInside G t page password = insidePage G page || not (hasPassword (objectBased t page) password)
 
--- "The capability that a member's call holds is, for IN, its page and password, and for RG its list page and list password; it is
--- judged true or not in the state that the call finds. Other calls hold none."
+-- so of the capability that a call holds, IN its own and RG its list's, in the table that the call finds; no other call holds one
 abbrev pub HeldInside : Group → Table → Option Presented → Type 0
 HeldInside G t none = Unit {0}
 HeldInside G t (some l) = staysInside G t (l .page) (l .password) ≡ true
 
--- "A member's slots and saved slots are looked at in every state from the boot to the end."
+-- so of each slot in use of a frame, and of a domain's active and saved frames
 abbrev pub FrameInside : Group → Table → Frame → Type 0
 FrameInside G t f = (k : ℕ) → k < f .count → staysInside G t (slotAt f k .page) (slotAt f k .password) ≡ true
 
@@ -37,14 +36,14 @@ pub record SlotsInside (G : Group) (w : World) (d : ℕ) : Type 0 where
   pub slots : FrameInside G (w .state .table) (domainAt (w .state) d .active)
   pub saved : (k : ℕ) → k < domainAt (w .state) d .depth → FrameInside G (w .state .table) (savedAt (domainAt (w .state) d) k)
 
--- "The searched lists are the Clists of a member's live slots .. ; what they hold is their pairs."
+-- so of each pair in the Clists of a frame's live slots
 abbrev pub ListsInside : Group → World → Frame → Type 0
 ListsInside G w f =
     (slot place : ℕ) → slot < 8 → place < pairsAt (w .state .table) (w .words) f slot
     → staysInside G (w .state .table) (firstWord (w .state .table) (w .words) f slot place / 256)
     (secondWord (w .state .table) (w .words) f slot place) ≡ true
 
--- "when a call of that member gets as far as judging its wanted rights"
+-- a call is judged: it wants rights, and passes each check before that
 abbrev pub wants : Want → Bool
 wants nothing = false
 wants (rights target r) = true
@@ -53,23 +52,15 @@ pub record Judges (w : World) (e : Event) : Type 0 where
   pub reached : firstFailing (early (e .domain) (e .call) (domainAt (w .state) (e .domain) .active)) ≡ none
   pub asks : wants (wanted (e .call)) ≡ true
 
--- "An outsider is granted a change inside when its WR at an inside address, or its DL, AP, DP or RG with an inside base, is answered 0."
+-- what a done call touches is inside: WR by its address, DL, AP, DP and RG by their base
+abbrev pub touchesInside : Group → Touch → Bool
+touchesInside G touchesNothing = false
+touchesInside G (touchesWord a) = insideAddress G a
+touchesInside G (touchesObject b) = insidePage G b
+touchesInside G touchesSlots = false
+
 abbrev pub changesInside : Group → Call → Bool
-changesInside G (Read a) = false
-changesInside G (Write a v) = insideAddress G a
-changesInside G (Execute a) = false
-changesInside G (Lookup a r) = false
-changesInside G (Create p n k) = false
-changesInside G (Delete b) = insidePage G b
-changesInside G (AddPassword b k m) = insidePage G b
-changesInside G (DropPassword b k) = insidePage G b
-changesInside G (Register b k l es) = insidePage G b
-changesInside G (Insert i l) = false
-changesInside G (Remove i) = false
-changesInside G Get = false
-changesInside G (Lock i) = false
-changesInside G (PdxCall a ch) = false
-changesInside G PdxReturn = false
+changesInside G c = touchesInside G (touched c)
 
 -- what is asked of a member's call, and of an outsider's
 pub record MemberCall (G : Group) (w : World) (e : Event) : Type 0 where
@@ -79,7 +70,7 @@ pub record MemberCall (G : Group) (w : World) (e : Event) : Type 0 where
 pub record OutsiderCall (G : Group) (w : World) (e : Event) : Type 0 where
   pub granted : numberOf (resultOf w e .outcome .answer) ≡ 0 → changesInside G (e .call) ≡ false
 
--- the premises in a state, of a call there, and along a list of calls
+-- the premises in a state, of a call there, and along a list of calls, its first and last state included
 pub record StatePremise (G : Group) (w : World) : Type 0 where
   pub members : (d : ℕ) → member G d ≡ true → SlotsInside G w d
 

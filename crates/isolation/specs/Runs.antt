@@ -7,9 +7,11 @@ use Rattle.calls.specs.Arguments.{entryOf}
 use Rattle.calls.specs.View.{World}
 use Rattle.calls.specs.Step.{Result, step, worldOf}
 use Rattle.calls.specs.Boot.{boot}
-use Rattle.calls.specs.Runs.{answerOf}
+use Rattle.calls.specs.Step.{answerOf}
 use Rattle.calls.specs.declared.Call.{Call}
-use Rattle.calls.specs.declared.Call.the-variants.{Read, Write, Execute, Lookup, Create, Delete, AddPassword, DropPassword, Register, Insert, Remove, Get, Lock, PdxCall, PdxReturn}
+use Rattle.calls.specs.declared.Call.the-variants.{OnStore, OnObject, OnDomain}
+use Rattle.calls.specs.declared.ObjectCall.{ObjectCall}
+use Rattle.calls.specs.declared.ObjectCall.the-variants.{Create, Delete, AddPassword, DropPassword, Register}
 use Rattle.calls.specs.declared.Entries.{Entries}
 use Rattle.isolation.specs.Group.{Group, member}
 
@@ -18,8 +20,7 @@ pub record Event : Type 0 where
   pub domain : ℕ
   pub call : Call
 
--- "A run is a BT by any domain, .., on any store of 8,192 words, then a list of any length of the calls other than BT .., by any
--- domains, with any arguments, refused ones included."
+-- a run: a boot on any store, then any calls by any domains. Claim.antt asks that the boot is answered 0; so the store has 8,192 words
 pub record Run : Type 0 where
   pub store : List ℕ
   pub booter : ℕ
@@ -32,7 +33,7 @@ bootOf r = boot (r .store) (r .booter) (r .homes)
 abbrev pub startOf : Run → World
 startOf r = worldOf (bootOf r)
 
--- "Each call gets the state and store that the last one returned"
+-- a call works on the world that the one before it left
 abbrev pub resultOf : World → Event → Result
 resultOf w e = step w (e .domain) (e .call)
 
@@ -40,13 +41,13 @@ unfoldable pub final : World → List Event → World
 final w [] = w
 final w (e ∷ es) = final (worldOf (resultOf w e)) es
 
--- "the answers to members' calls in order, each number with its value, for a done GT its fields"
+-- what the members are answered, in order: of each call the number, then the value or the fields of a done GT
 unfoldable pub answers : Group → World → List Event → List (List ℕ)
 answers G w [] = []
 answers G w (e ∷ es) =
     cond (member G (e .domain)) (answerOf (resultOf w e) ∷ answers G (worldOf (resultOf w e)) es) (answers G (worldOf (resultOf w e)) es)
 
--- "with the outsiders' calls struck out"
+-- the members' calls of a list
 unfoldable pub membersOnly : Group → List Event → List Event
 membersOnly G [] = []
 membersOnly G (e ∷ es) = cond (member G (e .domain)) (e ∷ membersOnly G es) (membersOnly G es)
@@ -55,27 +56,22 @@ membersOnly G (e ∷ es) = cond (member G (e .domain)) (e ∷ membersOnly G es) 
 abbrev pub kept : Entries → ℕ → ℕ
 kept es k = cond (ltb k (es .count)) (entryOf es k) 0
 
-abbrev pub blanked : Call → Call
-blanked (Read a) = Read a
-blanked (Write a v) = Write a v
-blanked (Execute a) = Execute a
-blanked (Lookup a r) = Lookup a r
-blanked (Create p n k) = Create p n k
-blanked (Delete b) = Delete b
-blanked (AddPassword b k m) = AddPassword b k m
-blanked (DropPassword b k) = DropPassword b k
-blanked (Register b k l es) =
+abbrev pub bare : ObjectCall → ObjectCall
+bare (Create p n k) = Create p n k
+bare (Delete b) = Delete b
+bare (AddPassword b k m) = AddPassword b k m
+bare (DropPassword b k) = DropPassword b k
+bare (Register b k l es) =
     Register b k l (record { count = es .count; first = kept es 0; second = kept es 1; third = kept es 2; fourth = kept es 3 })
-blanked (Insert i l) = Insert i l
-blanked (Remove i) = Remove i
-blanked Get = Get
-blanked (Lock i) = Lock i
-blanked (PdxCall a ch) = PdxCall a ch
-blanked PdxReturn = PdxReturn
+
+abbrev pub blanked : Call → Call
+blanked (OnStore c) = OnStore c
+blanked (OnObject c) = OnObject (bare c)
+blanked (OnDomain c) = OnDomain c
 
 abbrev pub argumentsOf : Event → Event
 argumentsOf e = record { domain = e .domain; call = blanked (e .call) }
 
--- "The members' calls are the same when the two lists, with the outsiders' calls struck out, agree in domain, letters and arguments."
+-- the members' calls of a run, known by domain, call and arguments: two runs must agree in these
 abbrev pub membersCalls : Group → Run → List Event
 membersCalls G r = map argumentsOf (membersOnly G (r .events))

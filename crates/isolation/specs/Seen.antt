@@ -9,11 +9,11 @@ use native.Mathlib.Omega.{arith}
 use borrow.Author.Tests.{not-true, eq-eqb}
 use Rattle.bounded.specs.Bools.{flag, unless, same-or-not}
 use Rattle.state.specs.Places.{freeObject, slotAt, domainAt}
-use Rattle.state.specs.Sound.{free, sound}
+use Rattle.state.specs.Extent.{free}
 use Rattle.state.specs.Lookup.{objectBased, hasPassword}
-use Rattle.state.specs.Laws.Lookup.{base-standing}
-use Rattle.state.specs.Laws.Found.{based-answered, covering-answered, covering-based}
-use Rattle.state.specs.Laws.PutObject.{based-base}
+use Rattle.state.specs.Laws.Lookup.{base-standing, based-base}
+use Rattle.soundness.specs.Sound.{sound}
+use Rattle.soundness.specs.Laws.Found.{based-answered, covering-answered, covering-based}
 use Rattle.state.specs.declared.Capability.{Capability}
 use Rattle.state.specs.declared.Table.{Table}
 use Rattle.state.specs.declared.Frame.{Frame}
@@ -25,10 +25,9 @@ use Rattle.judge.specs.declared.Target.{Target}
 use Rattle.judge.specs.declared.Target.the-variants.{Address, Base}
 use Rattle.judge.specs.declared.Judgement.{Judgement}
 use Rattle.judge.specs.declared.Judgement.the-variants.{Granted, Refused}
-use Rattle.calls.specs.Arguments.{Want, nothing, rights, wanted, presented}
-use Rattle.calls.specs.View.{World, firstFailing, early, pageOf, foundBy, search, reached, passes, view}
+use Rattle.calls.specs.View.{Want, nothing, rights, World, firstFailing, pageOf, foundBy, search, passes}
+use Rattle.calls.specs.Rules.{wanted, presented, early, view}
 use Rattle.calls.specs.declared.Presented.{Presented}
-use Rattle.calls.specs.declared.Refusal.{Refusal}
 use Rattle.isolation.specs.Group.{Group, member, insidePage}
 use Rattle.isolation.specs.Runs.{Event}
 use Rattle.isolation.specs.Premises.{staysInside, HeldInside, FrameInside, ListsInside, wants, MemberCall}
@@ -101,7 +100,7 @@ module _ (G : Group) (w : World) (ok : sound (w .state) ≡ true) where
   target-out (Base b) o = based-out G t b o
 
   -- an object asked for that stands is the one with its base, in the estate of the page asked for
-  target-own : (target : Target) → 0 < targeted t target .pages
+  pub target-own : (target : Target) → 0 < targeted t target .pages
       → (objectBased t (targeted t target .base) ≡ targeted t target) × (targeted t target .base / 32 ≡ pageOf target / 32)
   target-own (Address a) p =
       let b = covering-answered (w .state) (a / 64) ok .bounds p in
@@ -114,7 +113,7 @@ module _ (G : Group) (w : World) (ok : sound (w .state) ≡ true) where
   judged-in f target r k i = same-local t t′ (w .words) words′ f target r (target-in target i) (λ slot l. lists-in f k slot)
 
   -- an object outside is refused: no pair of the lists is true for it
-  judged-out : (f : Frame) (target : Target) (r : ℕ) → ListsInside G w f → insidePage G (pageOf target) ≡ false
+  pub judged-out : (f : Frame) (target : Target) (r : ℕ) → ListsInside G w f → insidePage G (pageOf target) ≡ false
       → judged t (w .words) f target r ≡ Refused
   judged-out f target r lists o =
       ⊎-elim (λ z. free-refused t (w .words) f target r (eq-eqb _ 0 z))
@@ -146,22 +145,15 @@ module _ (G : Group) (w : World) (ok : sound (w .state) ≡ true) where
   presented-in none k = refl
   presented-in (some l) k = live-in G t (record { page = l .page; password = l .password }) k
 
-  -- A MEMBER'S CALL SEES THE SAME IN THE PART as in the whole world, under the premises.
+  -- A MEMBER'S CALL THAT GETS AS FAR AS JUDGING SEES THE SAME IN THE PART as in the whole world, under the premises.
   pub view-in : (e : Event) → member G (e .domain) ≡ true → FrameInside G (w .state .table) (domainAt (w .state) (e .domain) .active)
-      → MemberCall G w e → view judged (part G w) (e .domain) (e .call) ≡ view judged w (e .domain) (e .call)
+      → MemberCall G w e → firstFailing (early (e .domain) (e .call) (domainAt (w .state) (e .domain) .active)) ≡ none
+      → view judged (part G w) (e .domain) (e .call) ≡ view judged w (e .domain) (e .call)
   unfolding view
-  view-in e m k call =
+  view-in e m k call p =
       rw (
         domain-in G w (e .domain) m,
         estate-in G t (e .domain) m,
         presented-in (presented (e .call)) (call .held),
-        found (firstFailing (early (e .domain) (e .call) f)) refl,
+        search-in (domainAt (w .state) (e .domain) .active) (wanted (e .call)) k (λ a. call .lists (record { reached = p; asks = a })),
       )
-    where
-      f : Frame
-      f = domainAt (w .state) (e .domain) .active
-
-      found : (o : Option Refusal) → firstFailing (early (e .domain) (e .call) f) ≡ o
-          → reached o (search judged (part G w) f (wanted (e .call))) ≡ reached o (search judged w f (wanted (e .call)))
-      found none p = search-in f (wanted (e .call)) k (λ a. call .lists (record { reached = p; asks = a }))
-      found (some r) p = refl

@@ -1,5 +1,5 @@
 -- The premise on slots and saved slots follows from the others, in every run: a slot is filled by the boot, by IN and by CA, and
--- what these put in lies inside, where a capability that a member's call holds, and the lists that it searches, are not true outside.
+-- what these put in lies inside, where neither what a member's call holds nor the lists that it searches are true outside.
 use Prim.Native.Nat.{ℕ, suc, _+_, _-_, _*_, _/_, _<_, _≤_, min}
 use mathlib.Core.Path.{_≡_, refl, ap, sym, _∙_}
 use mathlib.Core.Bool.{Bool, true, not, _&&_, true≢false}
@@ -15,12 +15,16 @@ use Rattle.bounded.specs.Every.{set-at}
 use Rattle.bounded.specs.Fill.{tabulate-at}
 use Rattle.rights.specs.Bits.{bit}
 use Rattle.state.specs.Places.{noCapability, noObject, noFrame, noEstate, noDomain, freeObject, emptyEstate, emptyDomain, slotAt, savedAt, objectAt, estateAt, domainAt}
-use Rattle.state.specs.Sound.{sound, covers}
+use Rattle.state.specs.Extent.{covers}
 use Rattle.state.specs.Lookup.{hasBase, objectWhere, placeWhere, based, objectBased, covering, objectCovering, ordinaryMode, hasPassword}
 use Rattle.state.specs.Update.{slotIn, slotOut, insertSlot, removeSlot, lockSlot, mergeList, onlyList, saveDomain, restoreDomain, newObject, addPassword, dropPassword, withObject, withActive}
-use Rattle.state.specs.Laws.Parts.{FrameSound, frame-parts, domain-parts, state-parts, not-zero}
-use Rattle.state.specs.Laws.Lookup.{parts-has, mode-ordinary}
-use Rattle.state.specs.Laws.Found.{found-or-free, covering-answered, covering-based}
+use Rattle.state.specs.Laws.Extent.{not-zero}
+use Rattle.state.specs.Laws.Passwords.{parts-has, mode-ordinary}
+use Rattle.state.specs.Laws.Lookup.{found-or-free}
+use Rattle.soundness.specs.Sound.{sound}
+use Rattle.soundness.specs.Laws.DomainParts.{FrameSound, frame-parts, domain-parts}
+use Rattle.soundness.specs.Laws.StateParts.{state-parts}
+use Rattle.soundness.specs.Laws.Found.{covering-answered, covering-based}
 use Rattle.state.specs.declared.Capability.{Capability}
 use Rattle.state.specs.declared.Object.{Object}
 use Rattle.state.specs.declared.Estate.{Estate}
@@ -38,17 +42,19 @@ use Rattle.judge.specs.declared.Target.the-variants.{Address, Base}
 use Rattle.judge.specs.declared.Judgement.{Judgement}
 use Rattle.judge.specs.declared.Judgement.the-variants.{Granted}
 use Rattle.calls.specs.Answers.{numberOf}
-use Rattle.calls.specs.Arguments.{rights, wanted}
-use Rattle.calls.specs.View.{World, search, foundBy, firstFailing, early, seen}
-use Rattle.calls.specs.Checks.{isSome, objectOf, estateOf, late}
-use Rattle.calls.specs.Changes.{Change, word, zeros, estate, domain, capability, registration, entered, changes, applyOne, applyAll}
+use Rattle.calls.specs.View.{rights, World, search, foundBy, firstFailing, isSome, objectOf, estateFound}
+use Rattle.calls.specs.Changes.{Change, word, zeros, estate, domain, capability, registration, entered, applyOne, applyAll}
+use Rattle.calls.specs.Rules.{touched, wanted, early, view, late, changes}
 use Rattle.calls.specs.Step.{worldOf, step}
 use Rattle.calls.specs.Boot.{homeOf, homeEstate, homeDomain, bootState, booted, boot}
 use Rattle.calls.specs.Laws.Booted.{bootChecks, boot-sound}
 use Rattle.calls.specs.Laws.Passed.{Passes, Refuses, Does, step-cases}
 use Rattle.calls.specs.Laws.Sound.{step-sound}
 use Rattle.calls.specs.declared.Call.{Call}
-use Rattle.calls.specs.declared.Call.the-variants.{Read, Write, Execute, Lookup, Create, Delete, AddPassword, DropPassword, Register, Insert, Remove, Get, Lock, PdxCall, PdxReturn}
+use Rattle.calls.specs.declared.Call.the-variants.{OnStore, OnObject, OnDomain}
+use Rattle.calls.specs.declared.Access.the-variants.{Read, Write, Execute, Lookup}
+use Rattle.calls.specs.declared.ObjectCall.the-variants.{Create, Delete, AddPassword, DropPassword, Register}
+use Rattle.calls.specs.declared.DomainCall.the-variants.{Insert, Remove, Get, Lock, PdxCall, PdxReturn}
 use Rattle.calls.specs.declared.Presented.{Presented}
 use Rattle.calls.specs.declared.Refusal.{Refusal}
 use Rattle.isolation.specs.Members.{member-below}
@@ -66,29 +72,29 @@ set-any P (x ∷ l) (suc i) (suc k) v d p q = set-any P l i k v d (λ e. p (ap s
 
 module _ (G : Group) where
   -- the slots of a frame, of a domain with its saved ones, and the registered list of an object, name pages inside
-  abbrev Page : Capability → Type 0
+  abbrev pub Page : Capability → Type 0
   Page c = insidePage G (c .page) ≡ true
 
-  abbrev FrameIn : Frame → Type 0
+  abbrev pub FrameIn : Frame → Type 0
   FrameIn f = (k : ℕ) → k < f .count → Page (slotAt f k)
 
-  record DomainIn (m : Domain) : Type 0 where
-    active : FrameIn (m .active)
-    saved : (k : ℕ) → k < m .depth → FrameIn (savedAt m k)
+  pub record DomainIn (m : Domain) : Type 0 where
+    pub active : FrameIn (m .active)
+    pub saved : (k : ℕ) → k < m .depth → FrameIn (savedAt m k)
 
-  abbrev ObjectIn : Object → Type 0
+  abbrev pub ObjectIn : Object → Type 0
   ObjectIn o = 0 < o .registration .password → Page (o .registration .list)
 
-  abbrev EstateIn : Estate → Type 0
+  abbrev pub EstateIn : Estate → Type 0
   EstateIn e = (k : ℕ) → ObjectIn (objectAt e k)
 
   -- so of every member, and of every object inside
-  record StateIn (s : State) : Type 0 where
-    domains : (d : ℕ) → member G d ≡ true → DomainIn (domainAt s d)
-    estates : (d : ℕ) → member G d ≡ true → EstateIn (estateAt (s .table) d)
+  pub record StateIn (s : State) : Type 0 where
+    pub domains : (d : ℕ) → member G d ≡ true → DomainIn (domainAt s d)
+    pub estates : (d : ℕ) → member G d ≡ true → EstateIn (estateAt (s .table) d)
 
   -- then the premise on slots holds
-  in-premise : (w : World) → StateIn (w .state) → StatePremise G w
+  pub in-premise : (w : World) → StateIn (w .state) → StatePremise G w
   unfolding staysInside
   in-premise w i =
       record {
@@ -183,10 +189,10 @@ module _ (G : Group) where
 
   -- what a search by a base finds: the estate and the object of the table, or nothing
   found-in : (w : World) (f : Frame) (b r : ℕ) → EstateIn (estateAt (w .state .table) (b / 32))
-      → EstateIn (estateOf (search judged w f (rights (Base b) r))) × ObjectIn (objectOf (search judged w f (rights (Base b) r)))
+      → EstateIn (estateFound (search judged w f (rights (Base b) r))) × ObjectIn (objectOf (search judged w f (rights (Base b) r)))
   found-in w f b r h = go (judged (w .state .table) (w .words) f (Base b) r)
     where
-      go : (j : Judgement) → EstateIn (estateOf (foundBy w (Base b) j)) × ObjectIn (objectOf (foundBy w (Base b) j))
+      go : (j : Judgement) → EstateIn (estateFound (foundBy w (Base b) j)) × ObjectIn (objectOf (foundBy w (Base b) j))
       go (Granted pair) = (h, based-in (w .state .table) b h)
       go Judgement.Refused = (λ k p. absurd (omega arith), λ p. absurd (omega arith))
 
@@ -272,57 +278,57 @@ module _ (G : Group) where
 
     -- another object in the place of one that was found
     becomes-in : (b r place : ℕ) (o : Object) → (ObjectIn (objectOf (search judged w frame (rights (Base b) r))) → member G (b / 32) ≡ true → ObjectIn o)
-        → member G (b / 32) ≡ true → EstateIn (withObject (estateOf (search judged w frame (rights (Base b) r))) place o)
+        → member G (b / 32) ≡ true → EstateIn (withObject (estateFound (search judged w frame (rights (Base b) r))) place o)
     becomes-in b r place o p m =
-        let q = found-in w frame b r (i .estates (b / 32) m) in put-in (estateOf (search judged w frame (rights (Base b) r))) place o (p (q .1) m) (q .0)
+        let q = found-in w frame b r (i .estates (b / 32) m) in put-in (estateFound (search judged w frame (rights (Base b) r))) place o (p (q .1) m) (q .0)
 
     -- a call that passes gets as far as judging
-    judges : (c : Call) → Passes w d c → wants (wanted c) ≡ true → Judges w (record { domain = d; call = c })
+    pub judges : (c : Call) → Passes w d c → wants (wanted c) ≡ true → Judges w (record { domain = d; call = c })
     unfolding early
     judges c s a = record { reached = rw (lt-ltb d 4 (s .domain), s .range, s .unlocks); asks = a }
 
     -- of a done call
     done-in : (c : Call) → CallPremise G w (record { domain = d; call = c }) → numberOf (resultOf w (record { domain = d; call = c }) .outcome .answer) ≡ 0
-        → Passes w d c → AllIn (changes d c (seen judged w d c))
-    unfolding changes seen late registration addPassword
-    done-in (Read a) p z s = tt
-    done-in (Write a x) p z s = (tt, tt)
-    done-in (Execute a) p z s = tt
-    done-in (Lookup a r) p z s = tt
-    done-in (Create a n k) p z s = (λ m. put-in (estateAt (w .state .table) d) _ (newObject a n k) (new-in a n k) (i .estates d m), (tt, tt))
-    done-in (Delete b) p z s = (becomes-in b 8 _ freeObject (λ o m q. absurd (omega arith)), tt)
-    done-in (AddPassword b k x) p z s = (becomes-in b 15 _ _ (λ o m. o), tt)
-    done-in (DropPassword b k) p z s = (becomes-in b 15 _ _ (λ o m. drop-in _ k o), tt)
-    done-in (Register b k l es) p z s = (
+        → Passes w d c → AllIn (changes d c (view judged w d c))
+    unfolding changes view late registration addPassword touched
+    done-in (OnStore (Read a)) p z s = tt
+    done-in (OnStore (Write a x)) p z s = (tt, tt)
+    done-in (OnStore (Execute a)) p z s = tt
+    done-in (OnStore (Lookup a r)) p z s = tt
+    done-in (OnObject (Create a n k)) p z s = (λ m. put-in (estateAt (w .state .table) d) _ (newObject a n k) (new-in a n k) (i .estates d m), (tt, tt))
+    done-in (OnObject (Delete b)) p z s = (becomes-in b 8 _ freeObject (λ o m q. absurd (omega arith)), tt)
+    done-in (OnObject (AddPassword b k x)) p z s = (becomes-in b 15 _ _ (λ o m. o), tt)
+    done-in (OnObject (DropPassword b k)) p z s = (becomes-in b 15 _ _ (λ o m. drop-in _ k o), tt)
+    done-in (OnObject (Register b k l es)) p z s = (
       becomes-in b 15 _ _ (λ o m q.
           ⊎-elim (λ t. live-in (w .state .table) l (p .of-member t .held) (s .rest .1 .0))
           (λ f. absurd (true≢false (sym m ∙ p .of-outsider f .granted z))) (flag (member G d))),
       tt,
     )
-    done-in (Insert j l) p z s = (
+    done-in (OnDomain (Insert j l)) p z s = (
       active-in _ (λ m. insert-in frame j (capability l) (leb-true j _ (s .rest .1 .1 .0))
           (live-in (w .state .table) l (p .of-member m .held) (s .rest .0)) (i .domains d m .active)),
       tt,
     )
-    done-in (Remove j) p z s = (active-in _ (λ m. remove-in frame j (fits (s .domain) .fits) (i .domains d m .active)), tt)
-    done-in Get p z s = tt
-    done-in (Lock j) p z s = (active-in _ (λ m. lock-in frame j (i .domains d m .active)), tt)
-    done-in (PdxCall a ch) p z s = (
+    done-in (OnDomain (Remove j)) p z s = (active-in _ (λ m. remove-in frame j (fits (s .domain) .fits) (i .domains d m .active)), tt)
+    done-in (OnDomain Get) p z s = tt
+    done-in (OnDomain (Lock j)) p z s = (active-in _ (λ m. lock-in frame j (i .domains d m .active)), tt)
+    done-in (OnDomain (PdxCall a ch)) p z s = (
       λ m.
-          let list = called-in w frame a h (p .of-member m .lists (judges (PdxCall a ch) s refl)) i (s .rest .0) in
+          let list = called-in w frame a h (p .of-member m .lists (judges (OnDomain (PdxCall a ch)) s refl)) i (s .rest .0) in
           save-in _ _ (domain-parts _ (state-parts (w .state) h .domain d (s .domain)) .long)
           (entered-in ch frame _ (fits (s .domain) .locks) list (i .domains d m .active)) (i .domains d m),
       tt,
     )
-    done-in PdxReturn p z s = (λ m. restore-in _ (i .domains d m), tt)
+    done-in (OnDomain PdxReturn) p z s = (λ m. restore-in _ (i .domains d m), tt)
 
     -- so after every call
-    step-in : (c : Call) → CallPremise G w (record { domain = d; call = c }) → StateIn (resultOf w (record { domain = d; call = c }) .outcome .state)
+    pub step-in : (c : Call) → CallPremise G w (record { domain = d; call = c }) → StateIn (resultOf w (record { domain = d; call = c }) .outcome .state)
     step-in c p = go (step-cases w d c)
       where
         go : Refuses w (step w d c) ⊎ ((sound (w .state) ≡ true) × Does w d c (step w d c)) → StateIn (step w d c .outcome .state)
         go (inl (why, e)) = rw e i
-        go (inr (t, (s, e))) = rw e (all-in (changes d c (seen judged w d c)) w (done-in c p (rw e) s) i)
+        go (inr (t, (s, e))) = rw e (all-in (changes d c (view judged w d c)) w (done-in c p (rw e) s) i)
 
   -- A BOOT, done or refused
   home-in : (homes : List ℕ) (d : ℕ) → member G d ≡ true → DomainIn (homeDomain homes d)
@@ -344,7 +350,7 @@ module _ (G : Group) where
   house-in homes d ℕ.zero p = absurd (omega arith)
   house-in homes d (suc k) p = none-in 7 k p
 
-  boot-in : (words : List ℕ) (d : ℕ) (homes : List ℕ) → StateIn (boot words d homes .outcome .state)
+  pub boot-in : (words : List ℕ) (d : ℕ) (homes : List ℕ) → StateIn (boot words d homes .outcome .state)
   unfolding boot bootState
   boot-in words d homes = go (firstFailing (bootChecks words d homes))
     where

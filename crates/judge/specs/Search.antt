@@ -7,7 +7,7 @@ use lib.ListN.{length, take, drop, getD}
 use Rattle.bounded.specs.Search.{first}
 use Rattle.rights.specs.Modes.{grants, denies}
 use Rattle.state.specs.Places.{slotAt}
-use Rattle.state.specs.Sound.{free}
+use Rattle.state.specs.Extent.{free}
 use Rattle.state.specs.Lookup.{objectCovering, objectBased, ordinaryMode, modeOf}
 use Rattle.state.specs.declared.Capability.{Capability}
 use Rattle.state.specs.declared.Object.{Object}
@@ -24,7 +24,7 @@ use Rattle.judge.specs.declared.Judgement.the-variants.{Refused}
 abbrev pub named : Table → Capability → Object
 named t c = objectBased t (c .page)
 
--- 1. "A slot is live when its capability is true for an object by an ordinary password whose mode is positive and holds R."
+-- rule 1: a capability is live where it shows an ordinary password, positive and with R, of the object that it names
 unfoldable pub live : Table → Capability → Bool
 live t c = grants (ordinaryMode (named t c) (c .password)) 1
 
@@ -32,21 +32,20 @@ live t c = grants (ordinaryMode (named t c) (c .password)) 1
 abbrev pub runWords : List ℕ → ℕ → ℕ → List ℕ
 runWords words base pages = cond (leb (64 * (base + pages)) (length words)) (take (64 * pages) (drop (64 * base) words)) []
 
--- "A Clist is any object read as pairs of words from its start": its words
+-- an object as a Clist: the words of its run
 unfoldable pub clist : List ℕ → Object → List ℕ
 clist words o = runWords words (o .base) (o .pages)
 
--- the words of the Clist at slot k; "Others are passed over."
+-- the words of the Clist at slot k; none where the slot is unused or not live
 unfoldable pub listAt : Table → List ℕ → Frame → ℕ → List ℕ
 listAt t words f k = cond (ltb k (f .count) && live t (slotAt f k)) (clist words (named t (slotAt f k))) []
 
--- "A capability is true for an object when its page is the base and its password is one of that object's": the mode that a
--- pair of words then has for the object, else 0; "The hint is ignored."
+-- the mode that a pair of words has for the object: that of its password where its page is the base, else 0; the hint, the last
+-- byte of the first word, is not looked at
 unfoldable pub pairMode : Object → ℕ → ℕ → ℕ
 pairMode o word password = cond (eqb (word / 256) (o .base)) (modeOf o password) 0
 
--- 3. "a true pair grants when its mode is positive and holds all of them; it denies when its mode is negative and holds any of
--- them. Other pairs are passed over."
+-- rule 3: the pair at an address grants the wanted rights or denies them, as its mode does, or is passed over
 unfoldable pub verdictOf : ℕ → ℕ → ℕ → Verdict
 verdictOf mode wanted at = cond (grants mode wanted) (Granted at) (cond (denies mode wanted) Denied Passed)
 
@@ -59,7 +58,7 @@ decides (Granted at) = true
 decides Denied = true
 decides Passed = false
 
--- 2. "Pairs are taken by slot from 0, then by place in the Clist." 4. "The first granting or denying pair decides."
+-- rules 2 and 4: within a Clist the first pair that decides, by place
 unfoldable pub listVerdict : List ℕ → ℕ → Object → ℕ → Verdict
 listVerdict list start o wanted =
     first (λ i. decides (pairVerdict list start o wanted i)) (pairVerdict list start o wanted) Passed 0 (length list / 2)
@@ -68,10 +67,11 @@ listVerdict list start o wanted =
 unfoldable pub slotVerdict : Table → List ℕ → Frame → Object → ℕ → ℕ → Verdict
 slotVerdict t words f o wanted k = listVerdict (listAt t words f k) (64 * slotAt f k .page) o wanted
 
+-- rules 2 and 4: the first slot that decides
 unfoldable pub frameVerdict : Table → List ℕ → Frame → Object → ℕ → Verdict
 frameVerdict t words f o wanted = first (λ k. decides (slotVerdict t words f o wanted k)) (slotVerdict t words f o wanted) Passed 0 8
 
--- "With neither, or with no object at the address, there is no grant, by the same refusal."
+-- rule 4: a denial, and no deciding pair, are refused alike
 abbrev pub judgementOf : Verdict → Judgement
 judgementOf (Granted at) = Judgement.Granted at
 judgementOf Denied = Refused
@@ -82,7 +82,7 @@ abbrev pub targeted : Table → Target → Object
 targeted t (Address a) = objectCovering t (a / 64)
 targeted t (Base b) = objectBased t b
 
--- "For an object and a nonempty set of wanted rights"
+-- rules 3 and 4: refused too where no object is asked for, or no right is wanted
 unfoldable pub searched : Table → List ℕ → Frame → Target → ℕ → Judgement
 searched t words f target wanted =
     cond (free (targeted t target) || eqb wanted 0) Refused (judgementOf (frameVerdict t words f (targeted t target) wanted))

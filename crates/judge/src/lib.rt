@@ -1,26 +1,30 @@
 // How an access is judged.
+use crate::pairs::decides;
+use crate::pairs::list_verdict;
 use rights::Rights;
 use state::Capability;
-use state::Estate;
 use state::Frame;
 use state::Object;
 use state::Table;
-use state::estates::based;
-use state::objects::mode_of;
+use state::objects::has_base;
 use state::objects::ordinary_mode;
 use state::tables::object_based;
 use state::tables::object_covering;
 ghost use mathlib.Core.Path.{_≡_};
 ghost use mathlib.Core.Bool.{cond, _||_};
-ghost use Prim.Native.Nat.{_+_, _*_, _<_};
+ghost use mathlib.Core.List.{[]};
+ghost use Prim.Native.Nat.{_*_, _<_};
 ghost use lib.Dec.{eqb};
-ghost use lib.ListN.{length};
 ghost use Rattle.rights.specs.Modes.{grants};
-ghost use Rattle.state.specs.Sound.{free};
-ghost use Rattle.state.specs.Lookup.{ordinaryMode, based};
-ghost use Rattle.judge.specs.Search.{named, live, runWords, pairMode, verdictOf, pairVerdict, decides, listVerdict, slotVerdict, frameVerdict, judgementOf};
+ghost use Rattle.state.specs.Places.{estateAt};
+ghost use Rattle.state.specs.Extent.{free};
+ghost use Rattle.state.specs.Lookup.{ordinaryMode};
+ghost use Rattle.judge.specs.Search.{named, live, runWords, clist, listVerdict, frameVerdict, judgementOf};
+ghost use Rattle.judge.specs.Opening.{openedBy, openedIn};
 ghost use Rattle.judge.specs.Judged.{judged};
 ghost use Rattle.judge.specs.declared.Judgement.the-variants.{Refused};
+
+mod pairs;
 
 // What is asked for: the object at an address, or the object with a base.
 pub enum Target {
@@ -35,7 +39,7 @@ pub enum Verdict {
     Passed,
 }
 
-// The judgement: granted, with the address of the granting pair's first word, or refused.
+// The judgement: granted, by the pair whose first word is at an address, or refused.
 pub enum Judgement {
     Granted(u64),
     Refused,
@@ -70,13 +74,81 @@ pub fn live(t: Table, c: Capability) -> bool
     opens(object_based(t, c.page as u64), c.password)
 }
 
-// The pages of the object of an estate that a capability names and opens, 0 where there is none.
-fn opened_in(e: Estate, c: Capability) -> u8
-    ensures { λ r. ⌜ r ≡ cond (grants (ordinaryMode (based e (c .page)) (c .password)) 1) (based e (c .page) .pages) 0 ⌝ }
+// The pages of an object where the password opens it, else 0.
+fn opened_by(o: Object, password: u64) -> u8
+    ensures { λ r. ⌜ r ≡ openedBy o password ⌝ }
 {
-    let o = based(e, c.page as u64);
-    if opens(o, c.password) {
+    if opens(o, password) {
         return o.pages;
+    }
+    0
+}
+
+// The pages of the object of the first estate that a capability names and opens, 0 where there is none. One function for each estate:
+// the estate is then copied once for its loop, where one handed over as a parameter is copied twice.
+fn opened_first(t: Table, c: Capability) -> u8
+    ensures { λ r. ⌜ r ≡ openedIn (estateAt t 0) c ⌝ }
+{
+    let e = t.estates[0];
+    let page = c.page as u64;
+    let mut k = 0;
+    while k < 8 {
+        let o = e.objects[k];
+        if has_base(o, page) {
+            return opened_by(o, c.password);
+        }
+        k += 1;
+    }
+    0
+}
+
+// The same in the second estate.
+fn opened_second(t: Table, c: Capability) -> u8
+    ensures { λ r. ⌜ r ≡ openedIn (estateAt t 1) c ⌝ }
+{
+    let e = t.estates[1];
+    let page = c.page as u64;
+    let mut k = 0;
+    while k < 8 {
+        let o = e.objects[k];
+        if has_base(o, page) {
+            return opened_by(o, c.password);
+        }
+        k += 1;
+    }
+    0
+}
+
+// The same in the third estate.
+fn opened_third(t: Table, c: Capability) -> u8
+    ensures { λ r. ⌜ r ≡ openedIn (estateAt t 2) c ⌝ }
+{
+    let e = t.estates[2];
+    let page = c.page as u64;
+    let mut k = 0;
+    while k < 8 {
+        let o = e.objects[k];
+        if has_base(o, page) {
+            return opened_by(o, c.password);
+        }
+        k += 1;
+    }
+    0
+}
+
+// The same in the fourth estate.
+fn opened_fourth(t: Table, c: Capability) -> u8
+    ensures { λ r. ⌜ r ≡ openedIn (estateAt t 3) c ⌝ }
+{
+    let e = t.estates[3];
+    let page = c.page as u64;
+    let mut k = 0;
+    while k < 8 {
+        let o = e.objects[k];
+        if has_base(o, page) {
+            return opened_by(o, c.password);
+        }
+        k += 1;
     }
     0
 }
@@ -87,96 +159,25 @@ fn opened(t: Table, c: Capability) -> u8
 {
     let d = c.page / 32;
     if d == 0 {
-        return opened_in(t.estates[0], c);
+        return opened_first(t, c);
     }
     if d == 1 {
-        return opened_in(t.estates[1], c);
+        return opened_second(t, c);
     }
     if d == 2 {
-        return opened_in(t.estates[2], c);
+        return opened_third(t, c);
     }
     if d == 3 {
-        return opened_in(t.estates[3], c);
+        return opened_fourth(t, c);
     }
     0
 }
 
-// The mode that a pair of words has for the object, 0 where it is not true for it.
-fn pair_mode(o: Object, word: u64, password: u64) -> u8
-    ensures { λ r. ⌜ r ≡ pairMode o word password ⌝ }
+// The first deciding pair of the Clist that a capability opens, where it is live.
+fn slot_verdict(t: Table, store: &[u64], c: Capability, o: Object, wanted: Rights) -> Verdict
+    requires { ⌜ 0 < wanted .bits ⌝ }
+    ensures { λ r. ⌜ r ≡ listVerdict (cond (live t c) (clist (now (store .entry)) (named t c)) []) (64 * c .page) o (wanted .bits) ⌝ }
 {
-    if word / 256 == o.base as u64 {
-        return mode_of(o, password);
-    }
-    0
-}
-
-// What a true pair of this mode says.
-fn verdict_of(mode: Rights, wanted: Rights, at: u64) -> Verdict
-    ensures { λ r. ⌜ r ≡ verdictOf (mode .bits) (wanted .bits) at ⌝ }
-{
-    if mode.grants(wanted) {
-        return Verdict::Granted(at);
-    }
-    if mode.denies(wanted) {
-        return Verdict::Denied;
-    }
-    Verdict::Passed
-}
-
-// What pair i of a Clist says; `start` is the address of its first word.
-fn pair_verdict(list: &[u64], start: u64, o: Object, wanted: Rights, i: usize) -> Verdict
-    requires { ⌜ (2 * i + 1 < length (now list)) × (start < 65536) ⌝ }
-    ensures { λ r. ⌜ r ≡ pairVerdict (now (list .entry)) start o (wanted .bits) i ⌝ }
-{
-    let at = 2 * i;
-    let word = list[at];
-    if (word / 256 != o.base as u64) & (wanted.bits != 0) {
-        return Verdict::Passed;
-    }
-    let mode = Rights {
-        bits: pair_mode(o, word, list[at + 1]),
-    };
-    verdict_of(mode, wanted, start + at as u64)
-}
-
-// Whether a verdict decides.
-fn decides(v: Verdict) -> bool
-    ensures { λ r. ⌜ r ≡ decides v ⌝ }
-{
-    match v {
-        Verdict::Granted(_) => true,
-        Verdict::Denied => true,
-        Verdict::Passed => false,
-    }
-}
-
-// The first deciding pair of a Clist.
-fn list_verdict(list: &[u64], start: u64, o: Object, wanted: Rights) -> Verdict
-    requires { ⌜ start < 65536 ⌝ }
-    ensures { λ r. ⌜ r ≡ listVerdict (now (list .entry)) start o (wanted .bits) ⌝ }
-{
-    let pairs = list.len() / 2;
-    let mut i = 0;
-    while i < pairs {
-        let v = pair_verdict(list, start, o, wanted, i);
-        if decides(v) {
-            return v;
-        }
-        i += 1;
-    }
-    Verdict::Passed
-}
-
-// The first deciding pair of the Clist at a slot, where the slot is live.
-fn slot_verdict(t: Table, store: &[u64], f: Frame, o: Object, wanted: Rights, k: usize) -> Verdict
-    requires { ⌜ k < 8 ⌝ }
-    ensures { λ r. ⌜ r ≡ slotVerdict t (now (store .entry)) f o (wanted .bits) k ⌝ }
-{
-    if f.count as usize <= k {
-        return Verdict::Passed;
-    }
-    let c = f.slots[k];
     list_verdict(
         clist(store, c.page, opened(t, c)),
         64 * (c.page as u64),
@@ -187,11 +188,16 @@ fn slot_verdict(t: Table, store: &[u64], f: Frame, o: Object, wanted: Rights, k:
 
 // The first deciding pair of the frame's live slots, by slot and then by place.
 fn frame_verdict(t: Table, store: &[u64], f: Frame, o: Object, wanted: Rights) -> Verdict
+    requires { ⌜ 0 < wanted .bits ⌝ }
     ensures { λ r. ⌜ r ≡ frameVerdict t (now (store .entry)) f o (wanted .bits) ⌝ }
 {
+    let count = f.count as usize;
     let mut k = 0;
     while k < 8 {
-        let v = slot_verdict(t, store, f, o, wanted, k);
+        if count <= k {
+            return Verdict::Passed;
+        }
+        let v = slot_verdict(t, store, f.slots[k], o, wanted);
         if decides(v) {
             return v;
         }

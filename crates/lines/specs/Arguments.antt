@@ -11,7 +11,6 @@ use borrow.Author.Tests.{le-ltb}
 use Rattle.lines.specs.declared.Field.{Field}
 use Rattle.lines.specs.declared.Field.the-variants.{Empty, Number, Bad}
 use Rattle.lines.specs.declared.Eight.{Eight}
-use Rattle.lines.specs.declared.Held.{Held}
 use Rattle.lines.specs.declared.Arguments.{Arguments}
 use Rattle.lines.specs.declared.Arguments.the-variants as arguments
 use Rattle.lines.specs.Number.{numberOf}
@@ -43,30 +42,25 @@ unfoldable pub argumentsOf : List ℕ → Arguments
 argumentsOf t = given (numbersOf (behind t))
 
 -- the same in an array
-abbrev pub held : List ℕ → Held
-held v =
-    record {
-      count = length v;
-      values = getD v 0 0 ∷ getD v 1 0 ∷ getD v 2 0 ∷ getD v 3 0 ∷ getD v 4 0 ∷ getD v 5 0 ∷ getD v 6 0 ∷ getD v 7 0 ∷ [];
-    }
+abbrev pub firstEight : List ℕ → List ℕ
+firstEight v = getD v 0 0 ∷ getD v 1 0 ∷ getD v 2 0 ∷ getD v 3 0 ∷ getD v 4 0 ∷ getD v 5 0 ∷ getD v 6 0 ∷ getD v 7 0 ∷ []
 
--- one number more
-abbrev pub withNumber : Held → ℕ → Held
-withNumber p v = record { count = p .count + 1; values = cond (ltb (p .count) 8) (set (p .values) (p .count) v) (p .values) }
+-- the array with one number more behind the n that stand
+abbrev pub withNumber : List ℕ → ℕ → ℕ → List ℕ
+withNumber values n v = cond (ltb n 8) (set values n v) values
 
-pub held-more : (vs : List ℕ) (v : ℕ) → withNumber (held vs) v ≡ held (vs ++ (v ∷ []))
-held-more [] v = refl
-held-more (a ∷ []) v = refl
-held-more (a ∷ b ∷ []) v = refl
-held-more (a ∷ b ∷ c ∷ []) v = refl
-held-more (a ∷ b ∷ c ∷ d ∷ []) v = refl
-held-more (a ∷ b ∷ c ∷ d ∷ e ∷ []) v = refl
-held-more (a ∷ b ∷ c ∷ d ∷ e ∷ f ∷ []) v = refl
-held-more (a ∷ b ∷ c ∷ d ∷ e ∷ f ∷ g ∷ []) v = refl
-held-more (a ∷ b ∷ c ∷ d ∷ e ∷ f ∷ g ∷ h ∷ vs) v =
+pub eight-more : (vs : List ℕ) (v : ℕ) → withNumber (firstEight vs) (length vs) v ≡ firstEight (vs ++ (v ∷ []))
+eight-more [] v = refl
+eight-more (a ∷ []) v = refl
+eight-more (a ∷ b ∷ []) v = refl
+eight-more (a ∷ b ∷ c ∷ []) v = refl
+eight-more (a ∷ b ∷ c ∷ d ∷ []) v = refl
+eight-more (a ∷ b ∷ c ∷ d ∷ e ∷ []) v = refl
+eight-more (a ∷ b ∷ c ∷ d ∷ e ∷ f ∷ []) v = refl
+eight-more (a ∷ b ∷ c ∷ d ∷ e ∷ f ∷ g ∷ []) v = refl
+eight-more (a ∷ b ∷ c ∷ d ∷ e ∷ f ∷ g ∷ h ∷ vs) v =
     let n : ℕ = suc (suc (suc (suc (suc (suc (suc (suc (length vs)))))))) in
-    let e : n + 1 ≡ suc (suc (suc (suc (suc (suc (suc (suc (length (vs ++ (v ∷ [])))))))))) = omega (arith, length-append vs (v ∷ [])) in
-    rw (le-ltb n 8 (omega arith), e)
+    rw (le-ltb n 8 (omega arith))
 
 -- some numbers in front of those that follow
 abbrev pub joined : List ℕ → Option (List ℕ) → Option (List ℕ)
@@ -91,25 +85,23 @@ joined-bad vs Empty o h = refl
 joined-bad vs (Number v) o h = cc
 joined-bad vs Bad o h = refl
 
--- what a loop over the fields knows at the comma at `i`
-pub record Taking (t : List ℕ) (i : ℕ) (p : Held) : Type 0 where
+-- what a loop over the fields knows at the comma at `i`, when it took n numbers
+pub record Taking (t : List ℕ) (i n : ℕ) (values : List ℕ) : Type 0 where
   pub bound : i ≤ length t
   pub numbers : List ℕ
-  pub so-far : p ≡ held numbers
-  pub few : length numbers ≤ i
+  pub count : n ≡ length numbers
+  pub so-far : values ≡ firstEight numbers
+  pub few : n ≤ i
   pub rest : numbersOf (behind t) ≡ joined numbers (numbersOf (behind (drop i t)))
 
 module _ {t : List ℕ} where
-  pub taking-none : Taking t 0 (held [])
-  taking-none = record { bound = omega arith; numbers = []; so-far = refl; few = omega arith; rest = joined-none (numbersOf (behind t)) }
+  pub taking-none : Taking t 0 0 (firstEight [])
+  taking-none = record { bound = omega arith; numbers = []; count = refl; so-far = refl; few = omega arith; rest = joined-none (numbersOf (behind t)) }
 
-  module _ {i : ℕ} {p : Held} (k : Taking t i p) where
-    pub taking-few : p .count ≤ i
-    taking-few = rw (k .so-far) (k .few)
-
-    pub taking-all : length t ≤ i → arguments.Numbers (p .count) (eightOf (p .values)) ≡ argumentsOf t
+  module _ {i n : ℕ} {values : List ℕ} (k : Taking t i n values) where
+    pub taking-all : length t ≤ i → arguments.Numbers n (eightOf values) ≡ argumentsOf t
     unfolding argumentsOf numbersOf
-    taking-all h = rw (k .rest, drop-of-length-le t h, append-nil (k .numbers), k .so-far)
+    taking-all h = rw (k .rest, drop-of-length-le t h, append-nil (k .numbers), k .so-far, k .count)
 
     module _ {e : ℕ} (h : i < length t) (end : e ≡ i + 1 + commaOf (drop (i + 1) t)) where
       rest-at : numbersOf (behind t) ≡ joined (k .numbers) (inFront (numberOf (take (e - (i + 1)) (drop (i + 1) t))) (numbersOf (behind (drop e t))))
@@ -118,14 +110,16 @@ module _ {t : List ℕ} where
           let w : e - (i + 1) ≡ commaOf (drop (i + 1) t) = omega arith in
           k .rest ∙ rw (behind-at t i h, w, end)
 
-      pub taking-more : {v : ℕ} {q : Held} → e ≤ length t → Number v ≡ numberOf (take (e - (i + 1)) (drop (i + 1) t)) → q ≡ withNumber p v → Taking t e q
-      taking-more {v} {q} l n w =
+      pub taking-more : {v : ℕ} {more : List ℕ} → e ≤ length t → Number v ≡ numberOf (take (e - (i + 1)) (drop (i + 1) t)) → more ≡ withNumber values n v
+          → Taking t e (n + 1) more
+      taking-more {v} l m w =
           record {
             bound = l;
             numbers = k .numbers ++ (v ∷ []);
-            so-far = w ∙ rw (k .so-far) (held-more (k .numbers) v);
-            few = let g = k .few in omega (arith, length-append (k .numbers) (v ∷ []));
-            rest = rest-at ∙ rw (← n) (joined-more (k .numbers) v (numbersOf (behind (drop e t))));
+            count = omega (arith, k .count, length-append (k .numbers) (v ∷ []));
+            so-far = w ∙ rw (k .so-far, k .count) (eight-more (k .numbers) v);
+            few = omega (arith, k .few);
+            rest = rest-at ∙ rw (← m) (joined-more (k .numbers) v (numbersOf (behind (drop e t))));
           }
 
       pub taking-bad : isNumber (numberOf (take (e - (i + 1)) (drop (i + 1) t))) ≡ false → arguments.Unreadable ≡ argumentsOf t

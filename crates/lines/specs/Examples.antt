@@ -1,7 +1,10 @@
 -- Some lines and what they read as.
 use mathlib.Core.Path.{_≡_, refl}
 use mathlib.Core.List.{[], _∷_}
-use Rattle.calls.specs.declared.Call.the-variants.{Read, Register, PdxReturn}
+use Rattle.calls.specs.declared.Call.the-variants.{OnStore, OnObject, OnDomain}
+use Rattle.calls.specs.declared.Access.the-variants.{Read}
+use Rattle.calls.specs.declared.ObjectCall.the-variants.{Register}
+use Rattle.calls.specs.declared.DomainCall.the-variants.{PdxReturn}
 use Rattle.lines.specs.declared.Line.the-variants as line
 use Rattle.lines.specs.Number.{numberOf}
 use Rattle.lines.specs.Split.{split}
@@ -9,7 +12,7 @@ use Rattle.lines.specs.Arguments.{numbersOf}
 use Rattle.lines.specs.Grammar.{domainCallOf, objectCallOf, callOf, lineOf}
 
 -- 0,RD,0
-pub read : lineOf (48 ∷ 44 ∷ 82 ∷ 68 ∷ 44 ∷ 48 ∷ []) ≡ line.Call 0 (Read 0)
+pub read : lineOf (48 ∷ 44 ∷ 82 ∷ 68 ∷ 44 ∷ 48 ∷ []) ≡ line.Call 0 (OnStore (Read 0))
 unfolding lineOf split numberOf numbersOf callOf objectCallOf domainCallOf
 read = refl
 
@@ -19,17 +22,17 @@ unfolding lineOf split numberOf numbersOf callOf objectCallOf domainCallOf
 boot = refl
 
 -- 1,RG,33,32,32,12,1,2,3,4,5
-pub register : lineOf (49 ∷ 44 ∷ 82 ∷ 71 ∷ 44 ∷ 51 ∷ 51 ∷ 44 ∷ 51 ∷ 50 ∷ 44 ∷ 51 ∷ 50 ∷ 44 ∷ 49 ∷ 50 ∷ 44 ∷ 49 ∷ 44 ∷ 50 ∷ 44 ∷ 51 ∷ 44 ∷ 52 ∷ 44 ∷ 53 ∷ []) ≡ line.Call 1 (Register 33 32 (record { page = 32; password = 12 }) (record { count = 5; first = 1; second = 2; third = 3; fourth = 4 }))
+pub register : lineOf (49 ∷ 44 ∷ 82 ∷ 71 ∷ 44 ∷ 51 ∷ 51 ∷ 44 ∷ 51 ∷ 50 ∷ 44 ∷ 51 ∷ 50 ∷ 44 ∷ 49 ∷ 50 ∷ 44 ∷ 49 ∷ 44 ∷ 50 ∷ 44 ∷ 51 ∷ 44 ∷ 52 ∷ 44 ∷ 53 ∷ []) ≡ line.Call 1 (OnObject (Register 33 32 (record { page = 32; password = 12 }) (record { count = 5; first = 1; second = 2; third = 3; fourth = 4 })))
 unfolding lineOf split numberOf numbersOf callOf objectCallOf domainCallOf
 register = refl
 
 -- 1,RG,33,32,32,12
-pub no-entries : lineOf (49 ∷ 44 ∷ 82 ∷ 71 ∷ 44 ∷ 51 ∷ 51 ∷ 44 ∷ 51 ∷ 50 ∷ 44 ∷ 51 ∷ 50 ∷ 44 ∷ 49 ∷ 50 ∷ []) ≡ line.Call 1 (Register 33 32 (record { page = 32; password = 12 }) (record { count = 0; first = 0; second = 0; third = 0; fourth = 0 }))
+pub no-entries : lineOf (49 ∷ 44 ∷ 82 ∷ 71 ∷ 44 ∷ 51 ∷ 51 ∷ 44 ∷ 51 ∷ 50 ∷ 44 ∷ 51 ∷ 50 ∷ 44 ∷ 49 ∷ 50 ∷ []) ≡ line.Call 1 (OnObject (Register 33 32 (record { page = 32; password = 12 }) (record { count = 0; first = 0; second = 0; third = 0; fourth = 0 })))
 unfolding lineOf split numberOf numbersOf callOf objectCallOf domainCallOf
 no-entries = refl
 
 -- 18446744073709551615,RT
-pub largest : lineOf (49 ∷ 56 ∷ 52 ∷ 52 ∷ 54 ∷ 55 ∷ 52 ∷ 52 ∷ 48 ∷ 55 ∷ 51 ∷ 55 ∷ 48 ∷ 57 ∷ 53 ∷ 53 ∷ 49 ∷ 54 ∷ 49 ∷ 53 ∷ 44 ∷ 82 ∷ 84 ∷ []) ≡ line.Call 18446744073709551615 PdxReturn
+pub largest : lineOf (49 ∷ 56 ∷ 52 ∷ 52 ∷ 54 ∷ 55 ∷ 52 ∷ 52 ∷ 48 ∷ 55 ∷ 51 ∷ 55 ∷ 48 ∷ 57 ∷ 53 ∷ 53 ∷ 49 ∷ 54 ∷ 49 ∷ 53 ∷ 44 ∷ 82 ∷ 84 ∷ []) ≡ line.Call 18446744073709551615 (OnDomain PdxReturn)
 unfolding lineOf split numberOf numbersOf callOf objectCallOf domainCallOf
 largest = refl
 

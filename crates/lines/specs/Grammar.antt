@@ -1,4 +1,4 @@
--- A line of the call program: document 01, "The call program" and "The calls, with the letters of the program".
+-- A line of the call program: document 01, "The call program" and "The calls".
 use Prim.Native.Nat.{ℕ, _+_, _-_, _*_, _<_}
 use mathlib.Core.Path.{_≡_}
 use mathlib.Core.Bool.{cond}
@@ -8,7 +8,11 @@ use native.Mathlib.Omega.{arith}
 use lib.Dec.{leb, ltb, eqb}
 use lib.ListN.{length, getD}
 use Rattle.calls.specs.declared.Call.{Call}
-use Rattle.calls.specs.declared.Call.the-variants.{Read, Write, Execute, Lookup, Create, Delete, AddPassword, DropPassword, Register, Insert, Remove, Get, Lock, PdxCall, PdxReturn}
+use Rattle.calls.specs.declared.Call.the-variants.{OnStore, OnObject, OnDomain}
+use Rattle.calls.specs.declared.Access.the-variants.{Read, Write, Execute, Lookup}
+use Rattle.calls.specs.declared.ObjectCall.{ObjectCall}
+use Rattle.calls.specs.declared.ObjectCall.the-variants.{Create, Delete, AddPassword, DropPassword, Register}
+use Rattle.calls.specs.declared.DomainCall.the-variants.{Insert, Remove, Get, Lock, PdxCall, PdxReturn}
 use Rattle.lines.specs.declared.Field.{Field}
 use Rattle.lines.specs.declared.Field.the-variants.{Empty, Number, Bad}
 use Rattle.lines.specs.declared.Eight.{Eight}
@@ -40,7 +44,7 @@ abbrev pub bootOf : ℕ → ℕ → Homes → Line
 bootOf d count homes = cond (eqb count 4) (line.Boot d homes) line.Unreadable
 
 -- RG with n arguments: behind the first four, any number of entries, of which the first four are kept
-abbrev pub registerOf : ℕ → Eight → Call
+abbrev pub registerOf : ℕ → Eight → ObjectCall
 registerOf n x =
     Register (x .0) (x .1) (record { page = x .2; password = x .3 })
     (record { count = n - 4; first = x .4; second = x .5; third = x .6; fourth = x .7 })
@@ -49,32 +53,32 @@ registerOf n x =
 unfoldable pub domainCallOf : ℕ → ℕ → ℕ → Eight → Line
 domainCallOf d letters n x =
     -- IN
-    cond (eqb letters 0x494e) (exactly d n 3 (Insert (x .0) (record { page = x .1; password = x .2 })))
+    cond (eqb letters 0x494e) (exactly d n 3 (OnDomain (Insert (x .0) (record { page = x .1; password = x .2 }))))
     -- RM
-    (cond (eqb letters 0x524d) (exactly d n 1 (Remove (x .0)))
+    (cond (eqb letters 0x524d) (exactly d n 1 (OnDomain (Remove (x .0))))
     -- GT
-    (cond (eqb letters 0x4754) (exactly d n 0 Get)
+    (cond (eqb letters 0x4754) (exactly d n 0 (OnDomain Get))
     -- LO
-    (cond (eqb letters 0x4c4f) (exactly d n 1 (Lock (x .0)))
+    (cond (eqb letters 0x4c4f) (exactly d n 1 (OnDomain (Lock (x .0))))
     -- CA
-    (cond (eqb letters 0x4341) (exactly d n 2 (PdxCall (x .0) (x .1)))
+    (cond (eqb letters 0x4341) (exactly d n 2 (OnDomain (PdxCall (x .0) (x .1))))
     -- RT
-    (cond (eqb letters 0x5254) (exactly d n 0 PdxReturn)
+    (cond (eqb letters 0x5254) (exactly d n 0 (OnDomain PdxReturn))
     line.Unreadable)))))
 
 -- the calls on objects, else those on domains
 unfoldable pub objectCallOf : ℕ → ℕ → ℕ → Eight → Line
 objectCallOf d letters n x =
     -- CR
-    cond (eqb letters 0x4352) (exactly d n 3 (Create (x .0) (x .1) (x .2)))
+    cond (eqb letters 0x4352) (exactly d n 3 (OnObject (Create (x .0) (x .1) (x .2))))
     -- DL
-    (cond (eqb letters 0x444c) (exactly d n 1 (Delete (x .0)))
+    (cond (eqb letters 0x444c) (exactly d n 1 (OnObject (Delete (x .0))))
     -- AP
-    (cond (eqb letters 0x4150) (exactly d n 3 (AddPassword (x .0) (x .1) (x .2)))
+    (cond (eqb letters 0x4150) (exactly d n 3 (OnObject (AddPassword (x .0) (x .1) (x .2))))
     -- DP
-    (cond (eqb letters 0x4450) (exactly d n 2 (DropPassword (x .0) (x .1)))
+    (cond (eqb letters 0x4450) (exactly d n 2 (OnObject (DropPassword (x .0) (x .1))))
     -- RG
-    (cond (eqb letters 0x5247) (atLeast d n 4 (registerOf n x))
+    (cond (eqb letters 0x5247) (atLeast d n 4 (OnObject (registerOf n x)))
     (domainCallOf d letters n x)))))
 
 -- the home passwords of a boot
@@ -87,13 +91,13 @@ callOf d letters n x =
     -- BT
     cond (eqb letters 0x4254) (bootOf d n (homesFrom x))
     -- RD
-    (cond (eqb letters 0x5244) (exactly d n 1 (Read (x .0)))
+    (cond (eqb letters 0x5244) (exactly d n 1 (OnStore (Read (x .0))))
     -- WR
-    (cond (eqb letters 0x5752) (exactly d n 2 (Write (x .0) (x .1)))
+    (cond (eqb letters 0x5752) (exactly d n 2 (OnStore (Write (x .0) (x .1))))
     -- EX
-    (cond (eqb letters 0x4558) (exactly d n 1 (Execute (x .0)))
+    (cond (eqb letters 0x4558) (exactly d n 1 (OnStore (Execute (x .0))))
     -- LK
-    (cond (eqb letters 0x4c4b) (exactly d n 2 (Lookup (x .0) (x .1)))
+    (cond (eqb letters 0x4c4b) (exactly d n 2 (OnStore (Lookup (x .0) (x .1))))
     (objectCallOf d letters n x)))))
 
 -- domain, call letters, arguments: each field but the letters is a number

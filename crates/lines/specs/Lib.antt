@@ -1,4 +1,6 @@
 pub mod Number
+pub mod Bytes
+pub mod Short
 pub mod Until
 pub mod Split
 pub mod Arguments

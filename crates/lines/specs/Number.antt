@@ -1,4 +1,4 @@
--- A number field: "decimal, below 2^64, without leading zeros".
+-- A number field, by document 01, "The call program": digits of a number below 2^64, with no needless zero in front.
 use Prim.Native.Nat.{ℕ, _+_, _-_, _*_, _^_}
 use mathlib.Core.Bool.{Bool, _&&_, not, cond}
 use mathlib.Core.List.{List, foldl}

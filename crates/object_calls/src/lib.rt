@@ -1,86 +1,168 @@
-// The calls on objects: CR, DL, AP, DP and RG.
-use calls::Entries;
-use calls::Outcome;
-use calls::Presented;
+// The calls on objects: CR, DL, AP and DP. Each hands back its answer beside the estate that it changed.
+use calls::Altered;
+use calls::Answer;
 use calls::Refusal;
-use calls::admits;
-use calls::refused;
-use state::State;
+use calls::replies::becomes;
+use calls::replies::unaltered;
+use calls::words::zero_words;
+use judge::Judgement;
+use judge::Target;
+use judge::judge;
+use rights::Rights;
+use state::Estate;
+use state::Frame;
+use state::Object;
+use state::Table;
+use state::estates::free_place;
+use state::estates::with_object;
+use state::extents::apart;
+use state::extents::lies_in;
+use state::objects::add_password;
+use state::objects::drop_password;
+use state::objects::free_object;
+use state::objects::has_password;
+use state::objects::new_object;
+use state::objects::place_of;
+use state::tables::object_based;
 ghost use mathlib.Core.Path.{_≡_};
-ghost use Rattle.calls.specs.Step.{world, result, step};
-ghost use Rattle.calls.specs.declared.Call.the-variants.{Create, Delete, AddPassword, DropPassword, Register};
+ghost use Prim.Native.Nat.{ℕ, _<_};
+ghost use Rattle.state.specs.Places.{objectAt};
+ghost use Rattle.state.specs.Extent.{apart};
+ghost use Rattle.state.specs.declared.Frame.{Frame as Slots};
+ghost use Rattle.calls.specs.Arguments.{runFree};
+ghost use Rattle.calls.specs.Rules.{inRange};
+ghost use Rattle.calls.specs.Parts.{Alters};
+ghost use Rattle.calls.specs.declared.Call.the-variants.{OnObject};
+ghost use Rattle.calls.specs.declared.ObjectCall.the-variants.{Create, Delete, AddPassword, DropPassword};
 
-// What each call does after check 3.
-pub mod checked;
+// Whether the object is apart from that at a place of the estate.
+fn place_apart(e: Estate, k: usize, o: Object) -> bool
+    requires { ⌜ k < 8 ⌝ }
+    ensures { λ r. ⌜ r ≡ apart (objectAt e k) o ⌝ }
+{
+    let other = e.objects[k];
+    apart(other, o)
+}
+
+// Whether the object is apart from all of the estate.
+fn run_free(e: Estate, o: Object) -> bool
+    ensures { λ r. ⌜ r ≡ runFree e o ⌝ }
+{
+    place_apart(e, 0, o)
+        & place_apart(e, 1, o)
+        & place_apart(e, 2, o)
+        & place_apart(e, 3, o)
+        & place_apart(e, 4, o)
+        & place_apart(e, 5, o)
+        & place_apart(e, 6, o)
+        & place_apart(e, 7, o)
+}
+
+// Whether the arguments of CR are in range.
+fn create_in_range(page: u64, pages: u64, password: u64) -> bool
+    ensures { λ r. ⌜ r ≡ inRange (OnObject (Create page pages password)) ⌝ }
+{
+    (page < 128) & (0 < pages) & (pages <= 32) & (password != 0)
+}
 
 // CR: a new object in the caller's estate.
 pub fn obj_create(
-    s: State,
+    t: Table,
     store: &mut [u64],
     d: u64,
     page: u64,
     pages: u64,
     password: u64,
-) -> Outcome
-    ensures { λ r. ⌜ result r (now (store .exit)) ≡ step (world s (now (store .entry))) d (Create page pages password) ⌝ }
+) -> Altered
+    ensures { λ r. ⌜ ((f : Slots) → Alters t d f (now (store .entry)) (Create page pages password) r (now (store .exit))) ⌝ }
 {
-    if admits(s, store) {
-        return checked::obj_create(s, store, d, page, pages, password);
+    if 4 <= d {
+        return unaltered(t, Refusal::NoDomain);
     }
-    refused(s, Refusal::Unsound)
+    if !create_in_range(page, pages, password) {
+        return unaltered(t, Refusal::OutOfRange);
+    }
+    let place = d as usize;
+    let e = t.estates[place];
+    let o = new_object(page as u8, pages as u8, password);
+    if !lies_in(o, d as u8) {
+        return unaltered(t, Refusal::NoRun);
+    }
+    if !run_free(e, o) {
+        return unaltered(t, Refusal::NoRun);
+    }
+    let k = free_place(e);
+    if 8 <= k {
+        return unaltered(t, Refusal::Full);
+    }
+    zero_words(store, 64 * page as usize, 64 * pages as usize);
+    Altered {
+        answer: Answer::Done(0),
+        place: place,
+        estate: with_object(e, k, o),
+    }
 }
 
 // DL: removes an object.
-pub fn obj_delete(s: State, store: &[u64], d: u64, base: u64) -> Outcome
-    ensures { λ r. ⌜ result r (now (store .entry)) ≡ step (world s (now (store .entry))) d (Delete base) ⌝ }
+pub fn obj_delete(t: Table, store: &[u64], f: Frame, base: u64) -> Altered
+    ensures { λ r. ⌜ ((d : ℕ) → Alters t d f (now (store .entry)) (Delete base) r (now (store .entry))) ⌝ }
 {
-    if admits(s, store) {
-        return checked::obj_delete(s, store, d, base);
+    if 128 <= base {
+        return unaltered(t, Refusal::OutOfRange);
     }
-    refused(s, Refusal::Unsound)
+    let Judgement::Granted(pair) = judge(t, store, f, Target::Base(base), Rights::DESTROY) else {
+        return unaltered(t, Refusal::NotGranted);
+    };
+    becomes(t, base, free_object())
+}
+
+// Whether the arguments of AP are in range.
+fn add_in_range(base: u64, password: u64, mode: u64) -> bool
+    ensures { λ r. ⌜ r ≡ inRange (OnObject (AddPassword base password mode)) ⌝ }
+{
+    (base < 128) & (password != 0) & Rights::legal(mode)
 }
 
 // AP: adds a password to an object.
 pub fn obj_passwd_add(
-    s: State,
+    t: Table,
     store: &[u64],
-    d: u64,
+    f: Frame,
     base: u64,
     password: u64,
     mode: u64,
-) -> Outcome
-    ensures { λ r. ⌜ result r (now (store .entry)) ≡ step (world s (now (store .entry))) d (AddPassword base password mode) ⌝ }
+) -> Altered
+    ensures { λ r. ⌜ ((d : ℕ) → Alters t d f (now (store .entry)) (AddPassword base password mode) r (now (store .entry))) ⌝ }
 {
-    if admits(s, store) {
-        return checked::obj_passwd_add(s, store, d, base, password, mode);
+    if !add_in_range(base, password, mode) {
+        return unaltered(t, Refusal::OutOfRange);
     }
-    refused(s, Refusal::Unsound)
+    let Judgement::Granted(pair) = judge(t, store, f, Target::Base(base), Rights::OWNER) else {
+        return unaltered(t, Refusal::NotGranted);
+    };
+    let o = object_based(t, base);
+    if has_password(o, password) {
+        return unaltered(t, Refusal::HasPassword);
+    }
+    if 4 <= place_of(o, 0) {
+        return unaltered(t, Refusal::Full);
+    }
+    becomes(t, base, add_password(o, password, mode as u8))
 }
 
 // DP: drops a password of an object, or the registration that has it.
-pub fn obj_passwd_drop(s: State, store: &[u64], d: u64, base: u64, password: u64) -> Outcome
-    ensures { λ r. ⌜ result r (now (store .entry)) ≡ step (world s (now (store .entry))) d (DropPassword base password) ⌝ }
+pub fn obj_passwd_drop(t: Table, store: &[u64], f: Frame, base: u64, password: u64) -> Altered
+    ensures { λ r. ⌜ ((d : ℕ) → Alters t d f (now (store .entry)) (DropPassword base password) r (now (store .entry))) ⌝ }
 {
-    if admits(s, store) {
-        return checked::obj_passwd_drop(s, store, d, base, password);
+    if 128 <= base {
+        return unaltered(t, Refusal::OutOfRange);
     }
-    refused(s, Refusal::Unsound)
-}
-
-// RG: registers an object as a PDX procedure.
-pub fn obj_cre_pdx(
-    s: State,
-    store: &[u64],
-    d: u64,
-    base: u64,
-    password: u64,
-    list: Presented,
-    entries: Entries,
-) -> Outcome
-    ensures { λ r. ⌜ result r (now (store .entry)) ≡ step (world s (now (store .entry))) d (Register base password list entries) ⌝ }
-{
-    if admits(s, store) {
-        return checked::obj_cre_pdx(s, store, d, base, password, list, entries);
+    let Judgement::Granted(pair) = judge(t, store, f, Target::Base(base), Rights::OWNER) else {
+        return unaltered(t, Refusal::NotGranted);
+    };
+    let o = object_based(t, base);
+    if !has_password(o, password) {
+        return unaltered(t, Refusal::Missing);
     }
-    refused(s, Refusal::Unsound)
+    becomes(t, base, drop_password(o, password))
 }

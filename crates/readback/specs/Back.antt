@@ -1,44 +1,36 @@
 -- A field is a number exactly where it is the decimal digits of one below 2^64.
-use Prim.Native.Nat.{ℕ, zero, suc, _+_, _-_, _*_, _/_, _%_, _^_, _<_, _≤_}
+use Prim.Native.Nat.{ℕ, zero, suc, _+_, _-_, _*_, _/_, _%_, _^_, _<_}
 use mathlib.Core.Path.{_≡_, refl, _∙_, ap}
 use mathlib.Core.Bool.{Bool, true, false, cond, _&&_, not}
 use mathlib.Core.List.{List, [], _∷_, _++_, foldl, foldl-append, append-assoc, append-nil}
 use native.Mathlib.Nat.{pow-succ'}
 use native.Mathlib.Omega.{arith}
-use lib.Dec.{ltb, leb, eqb}
-use borrow.Author.Tests.{lt-ltb, le-ltb, ltb-true, ltb-false, le-leb, ne-eqb, leb-true}
+use lib.Dec.{ltb, eqb}
+use borrow.Author.Tests.{lt-ltb, le-ltb, ltb-true, ltb-false}
 use Rattle.bounded.specs.Bools.{and-left, and-right}
 use Rattle.lines.specs.Number.{numberOf, after, isDigit, grown}
+use Rattle.lines.specs.Bytes.{digit-low, digit-high, bad-stays, first-digit, next-digit}
 use Rattle.lines.specs.declared.Field.the-variants.{Empty, Number, Bad}
-use Rattle.text.specs.Decimal.{digitsIn, decimal}
+use Rattle.text.specs.Decimal.{digitsIn, decimal, decimal-small}
 
--- a first digit
-first-digit : (d : ℕ) → d < 10 → after Empty (48 + d) ≡ Number d
-first-digit d h =
-    let e : 48 + d - 48 ≡ d = omega arith in
-    simp (le-leb 48 (48 + d) (omega arith), le-leb (48 + d) 57 (omega arith), e)
-
--- a further digit
-next-digit : (v d : ℕ) → d < 10 → 0 < v → v * 10 + d < 2 ^ 64 → after (Number v) (48 + d) ≡ Number (v * 10 + d)
-next-digit v d h z l =
-    let e : 48 + d - 48 ≡ d = omega arith in
-    let nz : v ≡ 0 → ⊥ = λ w. omega arith in
-    simp (le-leb 48 (48 + d) (omega arith), le-leb (48 + d) 57 (omega arith), e, ne-eqb v 0 nz, lt-ltb (v * 10 + d) (2 ^ 64) l)
+digit-back : (d : ℕ) → 48 + d - 48 ≡ d
+digit-back d = omega arith
 
 reads-in : (k n : ℕ) → n < 10 ^ suc k → n < 2 ^ 64 → numberOf (digitsIn (suc k) n) ≡ Number n
 unfolding numberOf digitsIn
-reads-in zero n h w = rw (lt-ltb n 10 (omega arith)) (first-digit n (omega arith))
+reads-in zero n h w = rw (lt-ltb n 10 (omega arith)) (first-digit (48 + n) (omega arith) (omega arith) ∙ ap Number (digit-back n))
 reads-in (suc k) n h w = go (ltb n 10) refl (reads-in k)
   where
     go : (t : Bool) → ltb n 10 ≡ t → ((m : ℕ) → m < 10 ^ suc k → m < 2 ^ 64 → foldl after Empty (digitsIn (suc k) m) ≡ Number m)
         → foldl after Empty (cond t ((48 + n) ∷ []) (digitsIn (suc k) (n / 10) ++ ((48 + n % 10) ∷ []))) ≡ Number n
-    go true e ih = first-digit n (ltb-true n 10 e)
+    go true e ih = let l = ltb-true n 10 e in first-digit (48 + n) (omega arith) (omega arith) ∙ ap Number (digit-back n)
     go false e ih =
         let l = ltb-false n 10 e in
         let p = pow-succ' 10 (suc k) in
-        let q : n / 10 * 10 + n % 10 ≡ n = omega arith in
+        let b : ℕ = 48 + n % 10 in
+        let q : n / 10 * 10 + (b - 48) ≡ n = omega arith in
         foldl-append after Empty (digitsIn (suc k) (n / 10)) ((48 + n % 10) ∷ [])
-        ∙ rw (ih (n / 10) (omega arith) (omega arith)) (next-digit (n / 10) (n % 10) (omega arith) (omega arith) (omega arith)) ∙ ap Number q
+        ∙ rw (ih (n / 10) (omega arith) (omega arith)) (next-digit (n / 10) b (omega arith) (omega arith) (omega arith) (omega arith)) ∙ ap Number q
 
 -- the decimal digits of a number below 2^64 read back as that number
 pub reads-back : (n : ℕ) → n < 2 ^ 64 → numberOf (decimal n) ≡ Number n
@@ -53,30 +45,12 @@ digits-more (suc k) n h =
     let p = pow-succ' 10 (suc k) in
     ap (λ (l : List ℕ). cond (ltb n 10) ((48 + n) ∷ []) (l ++ ((48 + n % 10) ∷ []))) (digits-more k (n / 10) (omega arith))
 
-decimal-small : (d : ℕ) → d < 10 → decimal d ≡ (48 + d) ∷ []
-unfolding decimal digitsIn
-decimal-small d h = rw (lt-ltb d 10 h)
-
 decimal-more : (v d : ℕ) → 0 < v → d < 10 → v * 10 + d < 2 ^ 64 → decimal (v * 10 + d) ≡ decimal v ++ ((48 + d) ∷ [])
 unfolding decimal digitsIn
 decimal-more v d z h l =
     let q : (v * 10 + d) / 10 ≡ v = omega arith in
     let r : (v * 10 + d) % 10 ≡ d = omega arith in
     rw (le-ltb (v * 10 + d) 10 (omega arith), q, r, digits-more 18 v (omega arith))
-
-bad-stays : (s : List ℕ) → foldl after Bad s ≡ Bad
-bad-stays [] = refl
-bad-stays (b ∷ s) = go (isDigit b) (bad-stays s)
-  where
-    go : (t : Bool) → foldl after Bad s ≡ Bad → foldl after (cond t Bad Bad) s ≡ Bad
-    go true h = h
-    go false h = h
-
-digit-low : (b : ℕ) → isDigit b ≡ true → 48 ≤ b
-digit-low b h = leb-true 48 b (and-left (leb 48 b) (leb b 57) h)
-
-digit-high : (b : ℕ) → isDigit b ≡ true → b ≤ 57
-digit-high b h = leb-true b 57 (and-right (leb 48 b) (leb b 57) h)
 
 -- digits that stand, then bytes that read to a number: all of them are the digits of that number
 abbrev Digits : List ℕ → ℕ → Type 0

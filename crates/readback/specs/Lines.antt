@@ -65,7 +65,7 @@ pub written-read : (d : ℕ) (letters vs : List ℕ) → d < 2 ^ 64 → plain le
     → lineOf (written d letters vs) ≡ callOf d (lettersOf letters) (length vs) (eightOf vs)
 unfolding lineOf allPlain decimal
 written-read d letters vs h p w l =
-    rw (le-ltb _ _ l, split-fields (letters ∷ map decimal vs) (decimal d) (digits-plain 20 d) (and-both p (decimals-plain vs)), reads-back d h, numbers-back vs w)
+    rw (le-ltb 200 (length (written d letters vs)) l, split-fields (letters ∷ map decimal vs) (decimal d) (digits-plain 20 d) (and-both p (decimals-plain vs)), reads-back d h, numbers-back vs w)
 
 -- a line that is written so
 pub record Written (s : List ℕ) : Type 0 where

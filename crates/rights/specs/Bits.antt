@@ -69,7 +69,7 @@ some-bit = bin-ind (λ (n : ℕ). (n ≡ 0 → ⊥) → (k : ℕ) × (bit k n �
     step : (n : ℕ) → ((n / 2 ≡ 0 → ⊥) → (k : ℕ) × (bit k (n / 2) ≡ 1)) → (n ≡ 0 → ⊥) → (k : ℕ) × (bit k n ≡ 1)
     step n ih h = ⊎-elim (λ z. let r = ih (omega arith) in (suc (r .0), r .1)) (λ o. (0, o)) (zero-or-one 0 n)
 
--- "holds all": each right of the set is in the mode
+-- the mode holds all of the set: each right of the set is in the mode
 pub all-exactly : (m w : ℕ) → holdsAll m w ≡ true ↔ ((k : ℕ) → bit k w ≡ 1 → bit k m ≡ 1)
 all-exactly m w = (each, λ h. eq-eqb _ _ (bit-ext _ _ (λ k. bit-and k m w ∙ kept h k (zero-or-one k w))))
   where
@@ -86,7 +86,7 @@ all-exactly m w = (each, λ h. eq-eqb _ _ (bit-ext _ _ (λ k. bit-and k m w ∙ 
 both-zero : (k m w : ℕ) → bitAnd m w ≡ 0 → min (bit k m) (bit k w) ≡ 0
 both-zero k m w e = sym (bit-and k m w) ∙ ap (bit k) e ∙ bit-zero k
 
--- "holds any": some right of the set is in the mode
+-- it holds any of the set: some right of the set is in the mode
 pub any-exactly : (m w : ℕ) → not (holdsNone m w) ≡ true ↔ Shares m w
 any-exactly m w = (
   λ h. found (some-bit (bitAnd m w) (eqb-false _ _ (not-true _ h))),
@@ -99,7 +99,7 @@ any-exactly m w = (
         let e : 1 ≡ min (bit k m) (bit k w) = sym (r .1) ∙ bit-and k m w in
         record { right = k; wanted = omega (arith, bit-lt k w); held = omega (arith, bit-lt k m) }
 
--- "holds none": no right of the set is in the mode
+-- it holds none of the set: no right of the set is in the mode
 pub none-exactly : (m w : ℕ) → holdsNone m w ≡ true ↔ ((k : ℕ) → bit k w ≡ 1 → bit k m ≡ 0)
 none-exactly m w = (
   λ h k e. omega (arith, both-zero k m w (eqb-true _ _ h)),

@@ -12,15 +12,32 @@ holdsAll mode set = eqb (bitAnd mode set) set
 abbrev pub holdsNone : ℕ → ℕ → Bool
 holdsNone mode set = eqb (bitAnd mode set) 0
 
--- "Rights are bits: R (read) 1, W (write) 2, X (execute) 4, D (destroy) 8, P (PDX) 16. A mode byte adds N (NOT) 128.
--- A mode is legal when it is below 256, bits 32 and 64 are clear, it holds at least one right, and P stands only beside N."
+-- the rights, each a bit of its own, and the owner's: read, write, execute and destroy together
+abbrev pub read : ℕ
+read = 1
+
+abbrev pub write : ℕ
+write = 2
+
+abbrev pub execute : ℕ
+execute = 4
+
+abbrev pub destroy : ℕ
+destroy = 8
+
+abbrev pub pdx : ℕ
+pdx = 16
+
+abbrev pub owner : ℕ
+owner = 15
+
+-- a legal mode is a byte with bits 32 and 64 clear that holds a right; PDX (16) stands only beside NOT (128)
 abbrev pub legal : ℕ → Bool
 legal mode = ltb mode 256 && holdsNone mode 96 && not (holdsNone mode 31) && (holdsNone mode 16 || not (holdsNone mode 128))
 
--- "a true pair grants when its mode is positive and holds all of them;"
+-- rule 3 of judging: a positive mode grants the rights where it holds them all, a negative one denies them where it holds any
 abbrev pub grants : ℕ → ℕ → Bool
 grants mode wanted = holdsNone mode 128 && holdsAll mode wanted
 
--- "it denies when its mode is negative and holds any of them"
 abbrev pub denies : ℕ → ℕ → Bool
 denies mode wanted = not (holdsNone mode 128) && not (holdsNone mode wanted)

@@ -36,7 +36,7 @@ impl Rights {
         (self.bits & Rights::NOT.bits == 0) & (self.bits & wanted.bits == wanted.bits)
     }
 
-    // Whether a capability of this mode denies the wanted rights: it is negative and holds any of them.
+    // Whether a capability of this mode denies the wanted rights: it is negative and holds at least one of them.
     pub fn denies(self, wanted: Rights) -> bool
         ensures { λ r. ⌜ r ≡ denies (self .bits) (wanted .bits) ⌝ }
     {

@@ -1,13 +1,8 @@
-pub mod Parts
-pub mod Lists
-pub mod Frames
-pub mod Domains
+-- The laws of the state.
+pub mod Extent
 pub mod Lookup
-pub mod Objects
-pub mod Estates
-pub mod Found
+pub mod Passwords
 pub mod Same
-pub mod Full
 pub mod Put
 pub mod PutObject
 pub mod PutPassword

@@ -1,5 +1,5 @@
 pub mod Places
-pub mod Sound
+pub mod Extent
 pub mod Lookup
 pub mod Update
 pub mod Same

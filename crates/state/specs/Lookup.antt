@@ -4,12 +4,12 @@ use mathlib.Core.Bool.{Bool, not, cond, _&&_, _||_}
 use lib.Dec.{eqb}
 use Rattle.bounded.specs.Search.{first}
 use Rattle.state.specs.Places.{freeObject, objectAt, passwordAt, estateOf}
-use Rattle.state.specs.Sound.{free, covers}
+use Rattle.state.specs.Extent.{free, covers}
 use Rattle.state.specs.declared.Object.{Object}
 use Rattle.state.specs.declared.Estate.{Estate}
 use Rattle.state.specs.declared.Table.{Table}
 
--- "named by its first page (its base)"
+-- the object stands, and the page is its base, the first of its run
 abbrev pub hasBase : ℕ → Object → Bool
 hasBase page o = not (free o) && eqb (o .base) page
 
@@ -46,11 +46,11 @@ freePlace e = placeWhere free e
 unfoldable pub placeOf : Object → ℕ → ℕ
 placeOf o word = first (λ k. eqb (passwordAt o k .word) word) (λ k. k) 4 0 4
 
--- the mode that a password has as an ordinary one, 0 where it is none; "A zero password is never true."
+-- the mode that a password has as an ordinary one, 0 where it is none; the word 0 is no password
 unfoldable pub ordinaryMode : Object → ℕ → ℕ
 ordinaryMode o word = cond (eqb word 0) 0 (first (λ k. eqb (passwordAt o k .word) word) (λ k. passwordAt o k .mode) 0 0 4)
 
--- the mode that a password has for the object: "The password of a registration has the positive mode 16."
+-- the mode that a password has for the object; that of a registration has the mode 16, P alone
 unfoldable pub modeOf : Object → ℕ → ℕ
 modeOf o word = cond (not (eqb word 0) && eqb (o .registration .password) word) 16 (ordinaryMode o word)
 

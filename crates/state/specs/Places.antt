@@ -51,7 +51,7 @@ emptyFrame = record { slots = replicate 8 noCapability; count = 0; locked = 0; w
 abbrev pub emptyDomain : Domain
 emptyDomain = record { active = emptyFrame; saved = replicate 4 emptyFrame; depth = 0 }
 
--- "the state with no objects and no slots"
+-- no object and no slot
 abbrev pub emptyState : State
 emptyState = record { table = record { estates = replicate 4 emptyEstate }; domains = replicate 4 emptyDomain }
 
@@ -77,6 +77,6 @@ estateAt t d = getD (t .estates) d noEstate
 abbrev pub domainAt : State → ℕ → Domain
 domainAt s d = getD (s .domains) d noDomain
 
--- "Domain d's estate is pages 32 × d to 32 × d + 31": the estate in which a page lies
+-- the estate in which a page lies: document 01, "Ground and bounds", item 2, 32 pages to each
 abbrev pub estateOf : Table → ℕ → Estate
 estateOf t page = estateAt t (page / 32)

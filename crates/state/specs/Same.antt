@@ -1,5 +1,5 @@
--- What every choice of storage places has in common: document 01, "Which storage place an object or password occupies within
--- its estate or object is left open; nothing below depends on it."
+-- What every choice of storage places has in common: document 01, "Ground and bounds", leaves it open at which place of its
+-- estate an object stands, and at which place of its object a password.
 use Prim.Native.Nat.{ℕ, _<_}
 use mathlib.Core.Path.{_≡_}
 use lib.ListN.{getD}
@@ -15,13 +15,13 @@ pub record SameRegistration (r r′ : Registration) : Type 0 where
   pub count : 0 < r .password → r .count ≡ r′ .count
   pub entry : 0 < r .password → (k : ℕ) → k < r .count → getD (r .entries) k 0 ≡ getD (r′ .entries) k 0
 
--- the same object: by base, page count, ordinary passwords with their modes, registration
+-- the same object: the same run, the same mode for each word as an ordinary password, the same registration
 pub record SameObject (o o′ : Object) : Type 0 where
   pub base : o .base ≡ o′ .base
   pub pages : o .pages ≡ o′ .pages
   pub modes : (word : ℕ) → ordinaryMode o word ≡ ordinaryMode o′ word
   pub registration : SameRegistration (o .registration) (o′ .registration)
 
--- the same objects by base, page count, passwords with their modes, registration
+-- at each base the same object, or none in both
 abbrev pub SameObjects : Table → Table → Type 0
 SameObjects t t′ = (base : ℕ) → SameObject (objectBased t base) (objectBased t′ base)

@@ -1,4 +1,4 @@
--- What the calls change, part by part. Each is defined for every value, unsound ones too.
+-- What the calls change, part by part: document 01, "The calls", by letters. Each is defined for every value, unsound ones too.
 use Prim.Native.Nat.{ℕ, _+_, _-_, max, min}
 use mathlib.Core.Bool.{true, false, cond, _&&_}
 use mathlib.Core.List.{List, _∷_}
@@ -16,7 +16,7 @@ use Rattle.state.specs.declared.Frame.{Frame}
 use Rattle.state.specs.declared.Domain.{Domain}
 use Rattle.state.specs.declared.State.{State}
 
--- the slot at k once c stands at `at`: "later slots shift down by one"
+-- the slot at k once c stands at `at`: the slots from there on are numbered one higher
 abbrev pub slotIn : Frame → ℕ → Capability → ℕ → Capability
 slotIn f at c k = cond (ltb k at) (slotAt f k) (cond (eqb k at) c (slotAt f (k - 1)))
 
@@ -27,7 +27,7 @@ insertSlot f at c =
     (record { slots = tabulate 8 (slotIn f at c); count = f .count + 1; locked = f .locked; whole = f .whole })
     f
 
--- the slot at k once that at `at` is gone: "later slots shift up"
+-- the slot at k once that at `at` is gone: the slots behind it are numbered one lower
 abbrev pub slotOut : Frame → ℕ → ℕ → Capability
 slotOut f at k = cond (ltb k at) (slotAt f k) (cond (ltb k 7) (slotAt f (k + 1)) noCapability)
 
@@ -38,18 +38,18 @@ removeSlot f at =
     (record { slots = tabulate 8 (slotOut f at); count = f .count - 1; locked = f .locked; whole = f .whole })
     f
 
--- "locks it and all before it, so the locked count rises to slot + 1 if it is smaller, also under the whole lock; 255 sets the whole lock and leaves the count"
+-- LO: the slots up to this one are locked, and none is unlocked; 255 stands for the whole lock, which changes no count
 unfoldable pub lockSlot : Frame → ℕ → Frame
 lockSlot f slot =
     cond (eqb slot 255)
     (record { slots = f .slots; count = f .count; locked = f .locked; whole = true })
     (record { slots = f .slots; count = f .count; locked = max (f .locked) (slot + 1); whole = f .whole })
 
--- "Merge inserts the registered Clist at the locked count, or if that is 0 at the smaller of 1 and the slot count; locks stay."
+-- CA, merge: the registered Clist goes in behind the locked slots; with none locked it is second, or first in an empty list
 unfoldable pub mergeList : Frame → Capability → Frame
 mergeList f c = insertSlot f (cond (eqb (f .locked) 0) (min 1 (f .count)) (f .locked)) c
 
--- "Empty leaves one slot, the registered Clist, nothing locked."
+-- CA, empty: the registered Clist alone, without locks
 unfoldable pub onlyList : Capability → Frame
 onlyList c = record { slots = c ∷ replicate 7 noCapability; count = 1; locked = 0; whole = false }
 
@@ -57,16 +57,16 @@ onlyList c = record { slots = c ∷ replicate 7 noCapability; count = 1; locked 
 abbrev pub withActive : Domain → Frame → Domain
 withActive m f = record { active = f; saved = m .saved; depth = m .depth }
 
--- "saves the domain": the active frame is saved and another takes its place, where there is room
+-- CA: the active frame is saved and another takes its place, where there is room
 unfoldable pub saveDomain : Domain → Frame → Domain
 saveDomain m f = cond (ltb (m .depth) 4) (record { active = f; saved = set (m .saved) (m .depth) (m .active); depth = m .depth + 1 }) m
 
--- "the last saved domain comes back", where there is one
+-- RT: the frame saved last is the active one again, where there is one
 unfoldable pub restoreDomain : Domain → Domain
 restoreDomain m =
     cond (ltb 0 (m .depth) && leb (m .depth) 4) (record { active = savedAt m (m .depth - 1); saved = m .saved; depth = m .depth - 1 }) m
 
--- a new object, with its password in "RWXD is 15, the owner's mode"
+-- a new object, with one password in the owner's mode, 15
 unfoldable pub newObject : ℕ → ℕ → ℕ → Object
 newObject base pages word =
     record { base = base; pages = pages; passwords = record { word = word; mode = 15 } ∷ replicate 3 noPassword; registration = freeRegistration }
@@ -82,7 +82,7 @@ withRegistration o g = record { base = o .base; pages = o .pages; passwords = o 
 unfoldable pub addPassword : Object → ℕ → ℕ → Object
 addPassword o word mode = withPasswords o (set (o .passwords) (placeOf o 0) (record { word = word; mode = mode }))
 
--- "drops it, or the registration that has it"
+-- DP: an ordinary password goes, or the whole registration whose password it is
 unfoldable pub dropPassword : Object → ℕ → Object
 dropPassword o word =
     cond (eqb word 0) o

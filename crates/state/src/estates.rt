@@ -6,7 +6,7 @@ use crate::Frame;
 use crate::Object;
 use crate::State;
 use crate::Table;
-use crate::objects::covers;
+use crate::extents::covers;
 use crate::objects::free_object;
 use crate::objects::has_base;
 ghost use mathlib.Core.Path.{_≡_};
@@ -108,7 +108,7 @@ pub fn with_domain(s: State, d: usize, m: Domain) -> State
     r
 }
 
-// The state with no objects and no slots.
+// No object and no slot.
 pub fn empty_state() -> State
     ensures { λ r. ⌜ r ≡ emptyState ⌝ }
 {

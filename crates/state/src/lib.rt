@@ -5,9 +5,9 @@
 
 pub mod domains;
 pub mod estates;
+pub mod extents;
 pub mod frames;
 pub mod objects;
-pub mod soundness;
 pub mod tables;
 
 // A capability as a slot or a registration holds it: the page it names and the password it shows.

@@ -1,4 +1,4 @@
-// One object: its run of pages, its passwords and its registration.
+// One object: its passwords and its registration.
 use crate::Capability;
 use crate::Object;
 use crate::Password;
@@ -6,18 +6,8 @@ use crate::Registration;
 ghost use lib.ListN.{set};
 ghost use mathlib.Core.Path.{_≡_};
 ghost use Rattle.state.specs.Places.{freeRegistration, freeObject};
-ghost use Rattle.state.specs.Sound.{covers};
 ghost use Rattle.state.specs.Lookup.{hasBase, placeOf, ordinaryMode, modeOf, hasPassword};
 ghost use Rattle.state.specs.Update.{newObject, withPasswords, addPassword, dropPassword, withRegistration};
-
-// Whether the object's run has the page.
-pub fn covers(o: Object, page: u64) -> bool
-    ensures { λ r. ⌜ r ≡ covers o page ⌝ }
-{
-    let base = o.base as u64;
-    let pages = o.pages as u64;
-    (base <= page) & (page < base + pages)
-}
 
 // Whether the object stands and has the base.
 pub fn has_base(o: Object, page: u64) -> bool
@@ -30,13 +20,21 @@ pub fn has_base(o: Object, page: u64) -> bool
 pub fn place_of(o: Object, word: u64) -> usize
     ensures { λ r. ⌜ r ≡ placeOf o word ⌝ }
 {
-    let mut k = 0;
-    while k < 4 {
-        let p = o.passwords[k];
-        if p.word == word {
-            return k;
-        }
-        k += 1;
+    let p = o.passwords[0];
+    if p.word == word {
+        return 0;
+    }
+    let q = o.passwords[1];
+    if q.word == word {
+        return 1;
+    }
+    let r = o.passwords[2];
+    if r.word == word {
+        return 2;
+    }
+    let s = o.passwords[3];
+    if s.word == word {
+        return 3;
     }
     4
 }
@@ -48,12 +46,23 @@ pub fn ordinary_mode(o: Object, word: u64) -> u8
     if word == 0 {
         return 0;
     }
-    let k = place_of(o, word);
-    if 4 <= k {
-        return 0;
+    let p = o.passwords[0];
+    if p.word == word {
+        return p.mode;
     }
-    let p = o.passwords[k];
-    p.mode
+    let q = o.passwords[1];
+    if q.word == word {
+        return q.mode;
+    }
+    let r = o.passwords[2];
+    if r.word == word {
+        return r.mode;
+    }
+    let s = o.passwords[3];
+    if s.word == word {
+        return s.mode;
+    }
+    0
 }
 
 // The mode that a password has for the object, the registration's included; 0 where it has none.

@@ -7,14 +7,11 @@ use lib.Dec.{leb, eqb}
 use lib.ListN.{length, take, replicate}
 use Rattle.state.specs.Places.{emptyState}
 use Rattle.state.specs.declared.State.{State}
-use Rattle.calls.specs.Step.{world, checked}
+use Rattle.calls.specs.Step.{world}
 use Rattle.calls.specs.View.{World}
-use Rattle.lines.specs.declared.Line.{Line}
 use Rattle.text.specs.Answer.{answerLine, printed, printedEnd}
-use Rattle.stream.specs.Run.{Reply, Run, reply}
+use Rattle.stream.specs.Run.{Reply, Run}
 use Rattle.stream.specs.declared.Feed.{Feed}
-use Rattle.stream.specs.declared.Quick.{Quick}
-use Rattle.stream.specs.declared.Quick.the-variants.{Said, Unsaid}
 
 -- the first `held` bytes of the line, and the first `at` bytes of the buffer
 abbrev pub runAt : State → List ℕ → ℕ → List ℕ → ℕ → List ℕ → ℕ → Run
@@ -41,12 +38,6 @@ roomFor length at = leb (at + 273) length
 -- the piece is taken to its end, or there is no room for the longest answer
 abbrev pub stopped : ℕ → ℕ → ℕ → ℕ → Bool
 stopped piece out taken at = eqb taken piece || not (roomFor out at)
-
--- a line answered at once leaves the state as it is; one that is not has changed no word
-abbrev pub quickly : Quick → State → List ℕ → List ℕ → Line → Type 0
-quickly (Said number value) s before after l =
-    reply checked (world s before) l ≡ record { number = number; values = value ∷ []; world = world s after }
-quickly Unsaid s before after l = after ≡ before
 
 -- a reply printed at `at`: the text goes on by it, up to `at′` in the buffer, and its world stands
 abbrev pub told : ℕ → List ℕ → ℕ → List ℕ → ℕ → World → Reply → Type 0

@@ -1,8 +1,8 @@
 -- The program holds the first 201 bytes of a line: enough to tell that it is too long.
 use Prim.Native.Nat.{ℕ, _+_, _<_, _≤_}
-use mathlib.Core.Path.{_≡_, refl, _∙_, ap}
+use mathlib.Core.Path.{_≡_, refl, _∙_, ap, sym}
 use mathlib.Core.Bool.{Bool, true, false, cond}
-use mathlib.Core.List.{List, [], _∷_, _++_, foldl}
+use mathlib.Core.List.{List, [], _∷_, _++_, foldl, append-assoc, append-nil}
 use native.Mathlib.Omega.{arith}
 use native.Mathlib.Numerals.{add-one}
 use lib.Dec.{ltb, eqb}
@@ -49,6 +49,14 @@ held-cut s b = go (ltb (length s) 201) refl
         let l : 201 ≤ length s = ltb-false _ _ e in
         let k : length (take 201 s) ≡ 201 = length-take-le 201 s l in
         rw (k, take-append-le 201 s (b ∷ []) l)
+
+held-fold : (s a : List ℕ) → foldl heldByte (take 201 a) s ≡ take 201 (a ++ s)
+held-fold [] a = ap (take 201) (sym (append-nil a))
+held-fold (b ∷ s) a = ap (λ (z : List ℕ). foldl heldByte z s) (held-cut a b) ∙ held-fold s (extended a b) ∙ ap (take 201) (append-assoc a (b ∷ []) s)
+
+-- a line read where it lies reads as one that is held
+pub whole-reads : (s : List ℕ) → lineOf s ≡ lineOf (foldl heldByte [] s)
+whole-reads s = sym (cut-reads s) ∙ ap lineOf (sym (held-fold s []))
 
 module _ (carry : Carrying) where
   pub cut-byte : (r : Run) (b : ℕ) → onHeld carry (cut r) b ≡ cut (onByteBy carry extended r b)

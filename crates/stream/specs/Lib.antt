@@ -5,5 +5,7 @@ pub mod Program
 pub mod Feeding
 pub mod Feed
 pub mod Told
+pub mod Kinds
 pub mod Room
+pub mod Answered
 pub mod Turns

@@ -6,12 +6,12 @@ use mathlib.Core.List.{List, [], _∷_, _++_, foldl}
 use lib.Dec.{eqb}
 use lib.ListN.{length}
 use Rattle.bounded.specs.Bools.{or-unless}
-use Rattle.state.specs.Sound.{sound}
-use Rattle.state.specs.Laws.Estates.{empty-sound}
+use Rattle.soundness.specs.Sound.{sound}
+use Rattle.soundness.specs.Laws.Estates.{empty-sound}
 use Rattle.calls.specs.View.{World}
-use Rattle.calls.specs.Step.{step, checked, admitted}
+use Rattle.calls.specs.Step.{step, unchecked, admitted}
 use Rattle.calls.specs.Boot.{boot}
-use Rattle.calls.specs.Laws.Checked.{step-checked}
+use Rattle.calls.specs.Laws.Unchecked.{step-unchecked}
 use Rattle.calls.specs.Laws.Sound.{step-sound}
 use Rattle.calls.specs.Laws.Booted.{boot-sound}
 use Rattle.calls.specs.declared.Answer.{Answer}
@@ -29,11 +29,11 @@ unfolding admitted
 admits w h = or-unless (not (eqb (length (w .words)) 8192)) (sound (w .state)) (λ e. h)
 
 -- on a sound state a line is answered the same without check 3
-reply-checked : (w : World) (l : Line) → sound (w .state) ≡ true → reply checked w l ≡ reply step w l
+reply-unchecked : (w : World) (l : Line) → sound (w .state) ≡ true → reply unchecked w l ≡ reply step w l
 unfolding reply
-reply-checked w Unreadable h = refl
-reply-checked w (Boot d homes) h = refl
-reply-checked w (Call d c) h = ap called (sym (step-checked w d c (admits w h)))
+reply-unchecked w Unreadable h = refl
+reply-unchecked w (Boot d homes) h = refl
+reply-unchecked w (Call d c) h = ap called (sym (step-unchecked w d c (admits w h)))
 
 -- and leaves a sound state
 reply-sound : (w : World) (l : Line) → sound (w .state) ≡ true → sound (reply step w l .world .state) ≡ true
@@ -47,9 +47,9 @@ reply-sound w (Boot d homes) h = go (boot (w .words) d (homesOf homes) .outcome 
 reply-sound w (Call d c) h = step-sound w d c h
 
 module _ (more : List ℕ → ℕ → List ℕ) where
-  byte-checked : (r : Run) (b : ℕ) → sound (r .world .state) ≡ true → onByteBy checked more r b ≡ onByteBy step more r b
+  byte-unchecked : (r : Run) (b : ℕ) → sound (r .world .state) ≡ true → onByteBy unchecked more r b ≡ onByteBy step more r b
   unfolding onByteBy
-  byte-checked r b h = rw (reply-checked (r .world) (lineOf (r .line)) h)
+  byte-unchecked r b h = rw (reply-unchecked (r .world) (lineOf (r .line)) h)
 
   byte-sound : (r : Run) (b : ℕ) → sound (r .world .state) ≡ true → sound (onByteBy step more r b .world .state) ≡ true
   unfolding onByteBy
@@ -60,10 +60,10 @@ module _ (more : List ℕ → ℕ → List ℕ) where
       go false = h
 
   -- check 3 may be left out from a sound state on
-  pub run-checked : (s : List ℕ) (r : Run) → sound (r .world .state) ≡ true → foldl (onByteBy checked more) r s ≡ foldl (onByteBy step more) r s
-  run-checked [] r h = refl
-  run-checked (b ∷ s) r h =
-      ap (λ (z : Run). foldl (onByteBy checked more) z s) (byte-checked r b h) ∙ run-checked s (onByteBy step more r b) (byte-sound r b h)
+  pub run-unchecked : (s : List ℕ) (r : Run) → sound (r .world .state) ≡ true → foldl (onByteBy unchecked more) r s ≡ foldl (onByteBy step more) r s
+  run-unchecked [] r h = refl
+  run-unchecked (b ∷ s) r h =
+      ap (λ (z : Run). foldl (onByteBy unchecked more) z s) (byte-unchecked r b h) ∙ run-unchecked s (onByteBy step more r b) (byte-sound r b h)
 
 started-sound : sound (started .world .state) ≡ true
 unfolding started
@@ -74,21 +74,21 @@ unfolding started
 started-cut = refl
 
 -- the run of the program, cut at 201 bytes a line and without check 3
-program-run : (s : List ℕ) → foldl (onHeld checked) started s ≡ cut (foldl (onByteBy step extended) started s)
+program-run : (s : List ℕ) → foldl (onHeld unchecked) started s ≡ cut (foldl (onByteBy step extended) started s)
 program-run s =
-    ap (λ (z : Run). foldl (onHeld checked) z s) (sym started-cut)
-    ∙ cut-run checked s started
-    ∙ ap cut (run-checked extended s started started-sound)
+    ap (λ (z : Run). foldl (onHeld unchecked) z s) (sym started-cut)
+    ∙ cut-run unchecked s started
+    ∙ ap cut (run-unchecked extended s started started-sound)
 
 started-text : started .text ≡ header
 unfolding started
 started-text = refl
 
 -- WHAT THE PROGRAM WRITES FOR ANY PIECES OF AN INPUT: the header, what each piece is answered, and at the end the last line
-pub program-writes : (ps : List (List ℕ)) → header ++ writtenFor checked heldByte started ps ≡ output (joined ps)
+pub program-writes : (ps : List (List ℕ)) → header ++ writtenFor unchecked heldByte started ps ≡ output (joined ps)
 unfolding output
 program-writes ps =
-    ap (λ (z : List ℕ). z ++ writtenFor checked heldByte started ps) (sym started-text)
-    ∙ pieces-whole checked heldByte ps started
+    ap (λ (z : List ℕ). z ++ writtenFor unchecked heldByte started ps) (sym started-text)
+    ∙ pieces-whole unchecked heldByte ps started
     ∙ ap (λ (z : Run). z .text ++ lastLine z) (program-run (joined ps))
     ∙ ap (λ (z : List ℕ). foldl (onByteBy step extended) started (joined ps) .text ++ z) (cut-last (foldl (onByteBy step extended) started (joined ps)))

@@ -3,7 +3,6 @@ use Prim.Native.Nat.{ℕ, zero, suc, _+_, _-_, _≤_, _<_, min}
 use mathlib.Core.Path.{_≡_, refl, _∙_, sym, ap}
 use mathlib.Core.Bool.{Bool, true, false, not, _&&_, true≢false}
 use mathlib.Core.List.{List, [], foldl}
-use mathlib.Core.Option.{some}
 use native.Mathlib.Omega.{arith}
 use lib.Dec.{leb, ltb, eqb}
 use lib.ListN.{length, take, length-take}
@@ -11,7 +10,7 @@ use lib.Seq.{take-all}
 use borrow.Author.Tests.{le-leb, lt-leb, leb-true, leb-false, ltb-true, ltb-false, eq-eqb, ne-eqb}
 use Rattle.bounded.specs.Bools.{and-left, and-right, or-left, or-unless}
 use Rattle.state.specs.declared.State.{State}
-use Rattle.calls.specs.Step.{checked}
+use Rattle.calls.specs.Step.{unchecked}
 use Rattle.stream.specs.Run.{Run}
 use Rattle.stream.specs.Held.{onHeld}
 use Rattle.stream.specs.Feed.{runAt, runOf, roomFor, stopped}
@@ -80,7 +79,7 @@ still-room from piece out at room h e = leb-true (at + 273) out (sym e ∙ and-r
 
 -- with an empty buffer of room enough, some of a piece is taken
 pub feed-moves : (before : Run) (piece : List ℕ) (size : ℕ) (r : Feed) (words out : List ℕ) → before .text ≡ [] → 273 ≤ size → 0 < length piece
-    → runOf r words out ≡ foldl (onHeld checked) before (take (r .taken) piece) → length out ≡ size → r .at ≤ size
+    → runOf r words out ≡ foldl (onHeld unchecked) before (take (r .taken) piece) → length out ≡ size → r .at ≤ size
     → stopped (length piece) size (r .taken) (r .at) ≡ true → 0 < r .taken
 feed-moves before piece size r words out z h l e k b s = go (r .taken) refl
   where

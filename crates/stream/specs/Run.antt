@@ -25,15 +25,15 @@ pub record Reply : Type 0 where
   pub values : List ℕ
   pub world : World
 
--- how a call is carried out: `step`, or `checked` where the state is known to be sound
+-- how a call is carried out: `step`, or `unchecked` where the state is known to be sound
 abbrev pub Carrying : Type 0
 Carrying = World → ℕ → Asked → Result
 
--- "1. The program alone: the line is not readable."
+-- a line that is not readable is answered 1, and changes nothing
 abbrev pub unread : World → Reply
 unread w = record { number = 1; values = 0 ∷ []; world = w }
 
--- "an answer number (0 is done), a value": a call's result
+-- the result of a call, as a reply
 abbrev pub called : Result → Reply
 called r = record { number = numberOf (r .outcome .answer); values = valuesOf (r .outcome); world = worldOf r }
 
@@ -69,7 +69,7 @@ pub record Run : Type 0 where
   pub line : List ℕ
   pub text : List ℕ
 
--- "its number from 1"; a line past the last number of 64 bits has that number
+-- the number of the next line; a line past the last number of 64 bits has that number
 abbrev pub nextNumber : ℕ → ℕ
 nextNumber n = cond (ltb n 18446744073709551615) (n + 1) n
 
@@ -100,11 +100,11 @@ onByte = onByteBy step extended
 abbrev pub header : List ℕ
 header = 108 ∷ 105 ∷ 110 ∷ 101 ∷ 44 ∷ 97 ∷ 110 ∷ 115 ∷ 119 ∷ 101 ∷ 114 ∷ 44 ∷ 118 ∷ 97 ∷ 108 ∷ 117 ∷ 101 ∷ 10 ∷ []
 
--- "Before the first BT the state has no objects."; "The output is the header, then .."
+-- at first: no object, a store of zeros, line 1, and the header written
 unfoldable pub started : Run
 started = record { world = world emptyState (replicate 8192 0); number = 1; line = []; text = header }
 
--- what is written behind the last line feed: "a last line without its line feed is unreadable"
+-- what is written behind the last line feed: answer 1 to a line that has begun there
 unfoldable pub lastLine : Run → List ℕ
 lastLine r = cond (eqb (length (r .line)) 0) [] (answerLine (r .number) 1 (0 ∷ []))
 

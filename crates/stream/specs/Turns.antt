@@ -7,9 +7,9 @@ use native.Mathlib.Omega.{arith}
 use lib.ListN.{length, take, replicate, length-take}
 use lib.Dec.{eqb}
 use borrow.Author.Tests.{eq-eqb, ne-eqb, eqb-true, eqb-false}
-use Rattle.calls.specs.Step.{checked}
+use Rattle.calls.specs.Step.{unchecked}
 use Rattle.text.specs.Answer.{answerLine, printed, printedEnd}
-use Rattle.stream.specs.Run.{Run, header, started, lastLine, output, called}
+use Rattle.stream.specs.Run.{Run, header, started, lastLine, output}
 use Rattle.stream.specs.Held.{heldByte, onHeld}
 use Rattle.stream.specs.Pieces.{joined, writtenFor, written-flushed, flushed}
 use Rattle.stream.specs.Program.{program-writes}
@@ -48,19 +48,19 @@ emptied f = record { state = f .state; number = f .number; line = f .line; held 
 pub data Turns : Feed → List ℕ → List (List ℕ) → List ℕ → Type 0 where
   finish : (f : Feed) (words out : List ℕ) → length (f .line) ≡ 201 → 273 ≤ length out → Turns f words [] (take (finishedEnd f out) (finishedText f out))
   turn : (f : Feed) (words out : List ℕ) (p : List ℕ) (f′ : Feed) (words′ out′ : List ℕ) (ps : List (List ℕ)) (t : List ℕ)
-      → runOf f′ words′ out′ ≡ foldl (onHeld checked) (runOf (emptied f) words out) p → Turns f′ words′ ps t
+      → runOf f′ words′ out′ ≡ foldl (onHeld unchecked) (runOf (emptied f) words out) p → Turns f′ words′ ps t
       → Turns f words (p ∷ ps) (take (f′ .at) out′ ++ t)
 
-turns-write : (f : Feed) (words out : List ℕ) (ps : List (List ℕ)) (t : List ℕ) → Turns f words ps t → t ≡ writtenFor checked heldByte (runOf f words out) ps
+turns-write : (f : Feed) (words out : List ℕ) (ps : List (List ℕ)) (t : List ℕ) → Turns f words ps t → t ≡ writtenFor unchecked heldByte (runOf f words out) ps
 unfolding lastLine
 turns-write _ _ out _ _ (finish f words out₁ l h) = finish-writes f words out₁ l h
 turns-write _ _ out _ _ (turn f words out₁ p f′ words′ out′ ps′ t′ e n) =
     ap (λ (z : List ℕ). take (f′ .at) out′ ++ z) (turns-write f′ words′ out′ ps′ t′ n)
-    ∙ ap (λ (z : Run). z .text ++ writtenFor checked heldByte z ps′) e
+    ∙ ap (λ (z : Run). z .text ++ writtenFor unchecked heldByte z ps′) e
 
 -- WHAT THE PROGRAM WRITES: the header, and what the turns from the start on write, for any pieces of an input
 pub turns-output : (ps : List (List ℕ)) (t : List ℕ) → Turns startFeed (replicate 8192 0) ps t → header ++ t ≡ output (joined ps)
 turns-output ps t n =
-    ap (λ (z : List ℕ). header ++ z) (turns-write startFeed (replicate 8192 0) [] ps t n ∙ ap (λ (z : Run). writtenFor checked heldByte z ps) (start-run []))
-    ∙ ap (λ (z : List ℕ). header ++ z) (written-flushed checked heldByte started ps)
+    ap (λ (z : List ℕ). header ++ z) (turns-write startFeed (replicate 8192 0) [] ps t n ∙ ap (λ (z : Run). writtenFor unchecked heldByte z ps) (start-run []))
+    ∙ ap (λ (z : List ℕ). header ++ z) (written-flushed unchecked heldByte started ps)
     ∙ program-writes ps

@@ -1,4 +1,4 @@
--- A line of the output: "for each line its number from 1, the answer and the value; GT, when done, prints its fields in place of the value".
+-- A line of the output, by document 01, "The call program": a line's number, its answer, and the value or the fields of a done GT.
 use Prim.Native.Nat.{ℕ, _+_, _*_, _<_, _≤_}
 use mathlib.Core.Path.{_≡_, refl, _∙_, sym}
 use mathlib.Core.Bool.{Bool, true, false, cond}

@@ -1,4 +1,5 @@
 pub mod Decimal
 pub mod Puts
+pub mod Spelled
 pub mod Answer
 pub mod Size

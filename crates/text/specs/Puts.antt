@@ -4,8 +4,8 @@ use mathlib.Core.Path.{_≡_, refl, _∙_, sym}
 use mathlib.Core.List.{List, [], _∷_, _++_, append-assoc, append-nil}
 use native.Mathlib.Omega.{arith}
 use native.Mathlib.Numerals.{add-one}
-use lib.ListN.{length, take, drop, getD, set, length-set, length-append, take-append-drop}
-use lib.Seq.{take-suc, take-suc-set, take-all, drop-set-lt, drop-drop}
+use lib.ListN.{length, take, drop, set, length-append, length-take, take-append-drop}
+use lib.Seq.{take-suc-set, take-at, drop-at, drop-set-lt, drop-drop}
 
 -- the buffer with the text s in it from `at` on; all else as it was
 abbrev pub withText : List ℕ → ℕ → List ℕ → List ℕ
@@ -21,6 +21,16 @@ pub put-is : {old : List ℕ} {at : ℕ} {s : List ℕ} {new : List ℕ} {end : 
 put-is {old} {at} {s} {new} {end} p =
     sym (take-append-drop end new) ∙ rw (p .text, p .rest, p .size) (append-assoc (take at old) s (drop (at + length s) old))
 
+pub put-from : (old : List ℕ) (at : ℕ) (s : List ℕ) → at ≤ length old → Put old at s (withText old at s) (at + length s)
+put-from old at s h =
+    let e : length (take at old ++ s) ≡ at + length s = omega (arith, length-append (take at old) s, length-take at old) in
+    let w = append-assoc (take at old) s (drop (at + length s) old) in
+    record {
+      size = refl;
+      text = rw (← w) (take-at (take at old ++ s) (drop (at + length s) old) (at + length s) e);
+      rest = rw (← w) (drop-at (take at old ++ s) (drop (at + length s) old) (at + length s) e);
+    }
+
 pub put-none : (old : List ℕ) (at : ℕ) → Put old at [] old at
 put-none old at = record { size = omega arith; text = sym (append-nil _); rest = refl }
 
@@ -35,28 +45,3 @@ then {a} {b} {c} {i} {j} {k} {s} {t} p q =
       text = q .text ∙ rw (p .text) (append-assoc (take i a) s t);
       rest = q .rest ∙ rw (q .size, ← drop-drop (length t) j b, ← drop-drop (length t) j a, p .rest);
     }
-
--- what a loop that puts the bytes of `s` knows at `i`
-pub record Putting (old : List ℕ) (at : ℕ) (s : List ℕ) (out : List ℕ) (i : ℕ) : Type 0 where
-  pub bound : i ≤ length s
-  pub kept : length out ≡ length old
-  pub done : Put old at (take i s) out (at + i)
-
-pub putting-none : (old : List ℕ) (at : ℕ) (s : List ℕ) → Putting old at s old 0
-putting-none old at s =
-    let e : at + 0 ≡ at = omega arith in
-    record { bound = omega arith; kept = refl; done = rw e (put-none old at) }
-
-module _ {old : List ℕ} {at : ℕ} {s out : List ℕ} {i : ℕ} (p : Putting old at s out i) where
-  pub putting-more : i < length s → at + i < length out → Putting old at s (set out (at + i) (getD s i 0)) (i + 1)
-  putting-more h l =
-      let q = then (p .done) (put-byte {b = getD s i 0} l) in
-      let e : at + i + 1 ≡ at + (i + 1) = omega arith in
-      record {
-        bound = omega arith;
-        kept = length-set out (at + i) (getD s i 0) ∙ p .kept;
-        done = rw (add-one i, take-suc s i 0 h, ← add-one i, ← e) q;
-      }
-
-  pub putting-all : length s ≤ i → Put old at s out (at + i)
-  putting-all h = rw (take-all i s h) at (p .done)

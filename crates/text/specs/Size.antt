@@ -2,13 +2,12 @@
 use Prim.Native.Nat.{ℕ, zero, suc, _+_, _*_, _/_, _%_, _≤_}
 use mathlib.Core.Path.{_≡_}
 use mathlib.Core.Bool.{Bool, true, false, cond}
-use mathlib.Core.List.{List, [], _∷_, _++_, foldl, append-assoc}
+use mathlib.Core.List.{List, [], _∷_, _++_, foldl}
 use native.Mathlib.Omega.{arith}
 use lib.Dec.{ltb}
-use lib.ListN.{length, take, drop, length-append, length-take}
-use lib.Seq.{take-at}
+use lib.ListN.{length, take, length-append}
 use Rattle.text.specs.Decimal.{digitsIn, decimal}
-use Rattle.text.specs.Puts.{withText}
+use Rattle.text.specs.Puts.{withText, put-from}
 use Rattle.text.specs.Answer.{withField, fieldsText, answerLine}
 
 digits-length : (k n : ℕ) → length (digitsIn k n) ≤ k
@@ -41,6 +40,4 @@ answer-length line answer vs =
 
 -- up to the end of the text: what was before it, and the text
 pub up-to-end : (old : List ℕ) (at : ℕ) (s : List ℕ) → at ≤ length old → take (at + length s) (withText old at s) ≡ take at old ++ s
-up-to-end old at s h =
-    let e : length (take at old ++ s) ≡ at + length s = omega (arith, length-append (take at old) s, length-take at old) in
-    rw (← append-assoc (take at old) s (drop (at + length s) old)) (take-at (take at old ++ s) (drop (at + length s) old) (at + length s) e)
+up-to-end old at s h = put-from old at s h .text

@@ -7,7 +7,7 @@ ghost use mathlib.Core.List.{[], _∷_};
 ghost use Prim.Native.Nat.{_+_, _*_, _<_, _≤_};
 ghost use lib.ListN.{length};
 ghost use Rattle.calls.specs.Answers.{refusalNumber, numberOf, valueOf};
-ghost use Rattle.text.specs.Decimal.{decimal};
+ghost use Rattle.text.specs.Decimal.{decimal, lastDigits, Places};
 ghost use Rattle.text.specs.Puts.{Put};
 ghost use Rattle.text.specs.Answer.{fieldsText, answerLine, valuesFrom, shownCount, printed, printedEnd};
 
@@ -19,16 +19,35 @@ fn put_byte(out: &mut [u8], at: usize, b: u8) -> usize
     at + 1
 }
 
-fn put_bytes(out: &mut [u8], at: usize, s: &[u8]) -> usize
-    requires { ⌜ at + length (now s) ≤ length (now out) ⌝ }
-    ensures { λ r. ⌜ Put (now (out .entry)) at (now (s .entry)) (now (out .exit)) r ⌝ }
+// How many digits n has.
+fn places(n: u64) -> usize
+    ensures { λ r. ⌜ Places n r ⌝ }
 {
-    let mut i = 0;
-    while i < s.len() {
-        out[at + i] = s[i];
-        i += 1;
+    let mut k = 1;
+    let mut power = 10;
+    while power <= n {
+        if k == 19 {
+            return 20;
+        }
+        power *= 10;
+        k += 1;
     }
-    at + i
+    k
+}
+
+// The last k digits of n, the last one first.
+fn put_digits(out: &mut [u8], at: usize, n: u64, k: usize) -> usize
+    requires { ⌜ at + k ≤ length (now out) ⌝ }
+    ensures { λ r. ⌜ Put (now (out .entry)) at (lastDigits k n) (now (out .exit)) r × (r ≡ at + k) ⌝ }
+{
+    let mut rest = n;
+    let mut i = k;
+    while 0 < i {
+        i -= 1;
+        out[at + i] = 48 + (rest % 10) as u8;
+        rest /= 10;
+    }
+    at + k
 }
 
 // A number in decimal.
@@ -36,9 +55,11 @@ fn put_number(out: &mut [u8], at: usize, n: u64) -> usize
     requires { ⌜ at + 20 ≤ length (now out) ⌝ }
     ensures { λ r. ⌜ Put (now (out .entry)) at (decimal n) (now (out .exit)) r × (r ≤ at + 20) ⌝ }
 {
-    let mut digits = [0u8; 20];
-    let k = io::decimal(n, &mut digits);
-    put_bytes(out, at, &digits[..k])
+    if n < 10 {
+        return put_byte(out, at, 48 + n as u8);
+    }
+    let k = places(n);
+    put_digits(out, at, n, k)
 }
 
 // A comma and a number.

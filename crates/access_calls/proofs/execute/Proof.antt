@@ -1,13 +1,14 @@
-use mathlib.Core.Path.{_∙_, sym}
+use mathlib.Core.Path.{refl, sym, _∙_}
 use borrow.Author.Needs.{needs}
-use Rattle.calls.specs.Laws.Checked.{step-checked, step-unsound}
+use Rattle.calls.specs.declared.Access.the-variants.{Execute}
+use Rattle.access_calls.specs.Laws.{refused, granted}
 use Rattle.access_calls.proofs.execute.Statement.{statement}
 use Rattle.access_calls.proofs.execute.Tie as tie
 
 pub execute-spec : {M : Type 1} → statement M
 execute-spec =
     tie.close
-    (tie.spec (λ c κs. search needs) (λ c κs. search needs)
-    (λ c. c .execute .ensures ∙ sym (step-checked _ _ _ (sym (c .before .before .admits .ensures) ∙ c .before .if1 .taken)))
-    (λ c κs. search needs)
-    (λ c. rw (step-unsound _ _ _ (sym (c .before .before .admits .ensures) ∙ c .before .if1 .left), c .refused .ensures)))
+    (tie.spec (λ c κs. search needs) (λ c. search needs)
+    (λ c. granted _ _ _ (Execute _) refl (sym (c .before .before .before .accessed .ensures) ∙ c .before .found .given .1))
+    (λ c. search needs)
+    (λ c. refused _ _ _ (Execute _) refl (sym (c .before .before .before .accessed .ensures) ∙ c .before .found2 .given .1)))

@@ -9,16 +9,14 @@ use borrow.Author.Tests.{leb-false}
 use Rattle.bounded.specs.Bools.{same-or-not}
 use Rattle.bounded.specs.Every.{below-at, below-all, below-same}
 use Rattle.state.specs.Places.{objectAt, entryAt}
-use Rattle.state.specs.Sound.{covers, apart}
+use Rattle.state.specs.Extent.{covers, apart}
 use Rattle.state.specs.Same.{SameObject}
-use Rattle.state.specs.Laws.Parts.{apart-sym}
-use Rattle.state.specs.Laws.Estates.{apart-run, apart-free}
+use Rattle.state.specs.Laws.Extent.{apart-sym, apart-run, apart-free}
 use Rattle.state.specs.Laws.Same.{tests-same}
-use Rattle.state.specs.Laws.Full.{Alike, alike-sym, also}
+use Rattle.soundness.specs.Laws.Full.{Alike, alike-sym, also}
 use Rattle.state.specs.declared.Object.{Object}
 use Rattle.state.specs.declared.Estate.{Estate}
-use Rattle.calls.specs.Arguments.{entryOf, entriesAll}
-use Rattle.calls.specs.Checks.{runFree, isEntry}
+use Rattle.calls.specs.Arguments.{entryOf, entriesAll, runFree, isEntry}
 use Rattle.calls.specs.declared.Entries.{Entries}
 
 -- an object that is apart from all of an estate is apart from all of one with the same objects

@@ -11,19 +11,25 @@ use lib.ListN.{length, length-set, length-replicate, getD-replicate}
 use Rattle.bounded.specs.Every.{below}
 use Rattle.bounded.specs.Fill.{tabulate-at}
 use Rattle.state.specs.Places.{noObject, noEstate, noDomain, freeObject, emptyEstate, emptyDomain, emptyState}
-use Rattle.state.specs.Sound.{apart, apartAt, apartFrom, objectOk, estateOk, slotOk, frameBounds, frameOk, savedOk, domainOk, sound}
+use Rattle.state.specs.Extent.{apart}
 use Rattle.state.specs.Update.{newObject}
-use Rattle.state.specs.Laws.Frames.{only-sound}
-use Rattle.state.specs.Laws.Domains.{active-sound}
-use Rattle.state.specs.Laws.Objects.{new-sound}
-use Rattle.state.specs.Laws.Estates.{object-apart-sound, apart-free, empty-sound}
-use Rattle.state.specs.Laws.Parts.{apart-sym, parts-state}
+use Rattle.state.specs.Laws.Extent.{apart-free, apart-sym}
+use Rattle.soundness.specs.Sound.{apartAt, apartFrom, objectOk, estateOk, slotOk, frameBounds, frameOk, savedOk, domainOk, sound}
+use Rattle.soundness.specs.Laws.Frames.{only-sound}
+use Rattle.soundness.specs.Laws.Domains.{active-sound}
+use Rattle.soundness.specs.Laws.Objects.{new-sound}
+use Rattle.soundness.specs.Laws.Estates.{object-apart-sound, empty-sound}
+use Rattle.soundness.specs.Laws.StateParts.{parts-state}
 use Rattle.calls.specs.Answers.{numberOf}
 use Rattle.calls.specs.View.{Check, check, firstFailing}
-use Rattle.calls.specs.Step.{world, result, doneWith, storeCheck}
+use Rattle.calls.specs.Step.{Result, refused, world, result, doneWith, storeCheck}
 use Rattle.calls.specs.Boot.{homeOf, homeEstate, homeDomain, bootState, homePair, bootWords, booted, homesOk, boot}
 use Rattle.calls.specs.Laws.Order.{ascending, AllHold, FailsFirst, none-fails, first-fails, Answering, answers-refused, answers-done}
 use Rattle.calls.specs.Laws.Passed.{Unchanged}
+use borrow.Author.Tests.{eq-eqb, lt-ltb}
+use Rattle.calls.specs.Parts.{callerOf}
+use Rattle.calls.specs.Laws.Returns.{caller-known, caller-unknown}
+use Rattle.calls.specs.declared.Caller.the-variants.{Known, Refused as Caller·Refused}
 use Rattle.calls.specs.declared.Refusal.{Refusal}
 use Rattle.calls.specs.declared.Refusal.the-variants.{NoDomain, OutOfRange}
 use Rattle.calls.specs.declared.Answer.the-variants.{Refused}
@@ -71,7 +77,21 @@ bootChecks words d homes =
     ∷ check OutOfRange (homesOk homes)
     ∷ []
 
+-- BT behind checks 2 and 4
+abbrev pub bootedBy : List ℕ → List ℕ → Result
+bootedBy words homes = booted homes words (firstFailing (check OutOfRange (homesOk homes) ∷ []))
+
 module _ (words : List ℕ) (d : ℕ) (homes : List ℕ) where
+  -- BT by a caller that is known, and by one that is not
+  pub boot-known : (k : ℕ) → callerOf (length words) d ≡ Known k → bootedBy words homes ≡ boot words d homes
+  unfolding boot
+  boot-known k h = let (e, q) = caller-known words d k h in rw (eq-eqb _ 8192 (e .long), lt-ltb d 4 (e .known))
+
+  pub boot-unknown : (why : Refusal) → callerOf (length words) d ≡ Caller·Refused why → refused (world emptyState words) why ≡ boot words d homes
+  unfolding boot
+  boot-unknown why h =
+      caller-unknown (λ x. refused (world emptyState words) why ≡ booted homes words x) words d (check OutOfRange (homesOk homes) ∷ []) why h refl
+
   -- they come in the order of their numbers
   pub boot-ascends : ascending 2 (bootChecks words d homes) ≡ true
   unfolding ascending
@@ -88,7 +108,7 @@ module _ (words : List ℕ) (d : ℕ) (homes : List ℕ) where
   pub boot-first : (why : Refusal) → boot words d homes .outcome .answer ≡ Refused why ↔ FailsFirst (bootChecks words d homes) why
   boot-first why = Iff·trans (boot-said why) (first-fails (bootChecks words d homes) why)
 
-  -- a refused one gives the state with no objects and no slots, and the store as it was
+  -- a refused one gives the empty state, and the store as it was
   pub boot-refused : (why : Refusal) → boot words d homes .outcome .answer ≡ Refused why → Unchanged (world emptyState words) (boot words d homes)
   unfolding boot
   boot-refused why h = rw (boot-said why .0 h) (record { state = refl; words = refl; value = refl; fields = refl })

@@ -12,16 +12,19 @@ use Rattle.bounded.specs.Every.{below-at}
 use Rattle.bounded.specs.Fill.{tabulate-at}
 use Rattle.rights.specs.Bits.{bit}
 use Rattle.state.specs.Places.{objectAt, estateAt, domainAt}
-use Rattle.state.specs.Sound.{covers, apart, liesIn, objectOk, estateOk, frameOk, domainOk, sound}
+use Rattle.state.specs.Extent.{covers, apart, liesIn}
 use Rattle.state.specs.Lookup.{hasBase, covering, based, placeBased, objectBased, objectCovering, hasPassword}
 use Rattle.state.specs.Update.{newObject, withObject, withRegistration, mergeList, onlyList}
-use Rattle.state.specs.Laws.Frames.{insert-sound, remove-sound, lock-sound, merge-sound, only-sound}
-use Rattle.state.specs.Laws.Domains.{active-sound, save-sound, restore-sound}
-use Rattle.state.specs.Laws.Objects.{SameRun, new-sound, add-sound, add-run, register-sound, register-run, drop-sound, drop-run}
-use Rattle.state.specs.Laws.Estates.{object-apart-sound, found-run-sound, clear-sound}
-use Rattle.state.specs.Laws.Parts.{not-zero, ObjectBounds, RegistrationSound, registration-parts, domain-parts, state-parts}
-use Rattle.state.specs.Laws.Lookup.{stands-sound}
-use Rattle.state.specs.Laws.Found.{FoundSound, based-sound, covering-sound}
+use Rattle.state.specs.Laws.Extent.{SameRun, add-run, register-run, drop-run, not-zero}
+use Rattle.soundness.specs.Sound.{objectOk, estateOk, frameOk, domainOk, sound}
+use Rattle.soundness.specs.Laws.Frames.{insert-sound, remove-sound, lock-sound, merge-sound, only-sound}
+use Rattle.soundness.specs.Laws.Domains.{active-sound, save-sound, restore-sound}
+use Rattle.soundness.specs.Laws.Objects.{new-sound, add-sound, register-sound, drop-sound}
+use Rattle.soundness.specs.Laws.Estates.{object-apart-sound, found-run-sound, clear-sound}
+use Rattle.soundness.specs.Laws.ObjectParts.{ObjectBounds, RegistrationSound, registration-parts}
+use Rattle.soundness.specs.Laws.DomainParts.{domain-parts}
+use Rattle.soundness.specs.Laws.StateParts.{state-parts}
+use Rattle.soundness.specs.Laws.Found.{stands-sound, FoundSound, based-sound, covering-sound}
 use Rattle.state.specs.declared.Capability.{Capability}
 use Rattle.state.specs.declared.Object.{Object}
 use Rattle.state.specs.declared.Estate.{Estate}
@@ -33,13 +36,16 @@ use Rattle.judge.specs.declared.Target.{Target}
 use Rattle.judge.specs.declared.Target.the-variants.{Address, Base}
 use Rattle.judge.specs.declared.Judgement.{Judgement}
 use Rattle.judge.specs.declared.Judgement.the-variants.{Granted}
-use Rattle.calls.specs.Arguments.{rights, inRange, entryOf, entriesAll}
-use Rattle.calls.specs.View.{World, Found, search, foundBy, unlocked, seen}
-use Rattle.calls.specs.Checks.{isSome, objectOf, estateOf, runFree, late}
-use Rattle.calls.specs.Changes.{Change, word, zeros, estate, domain, capability, registration, entered, changes}
+use Rattle.calls.specs.View.{rights, World, Found, search, foundBy, isSome, objectOf, estateFound}
+use Rattle.calls.specs.Arguments.{entryOf, entriesAll, runFree}
+use Rattle.calls.specs.Changes.{Change, word, zeros, estate, domain, capability, registration, entered}
+use Rattle.calls.specs.Rules.{inRange, unlocked, view, late, changes}
 use Rattle.calls.specs.Laws.Passed.{Passes}
 use Rattle.calls.specs.declared.Call.{Call}
-use Rattle.calls.specs.declared.Call.the-variants.{Read, Write, Execute, Lookup, Create, Delete, AddPassword, DropPassword, Register, Insert, Remove, Get, Lock, PdxCall, PdxReturn}
+use Rattle.calls.specs.declared.Call.the-variants.{OnStore, OnObject, OnDomain}
+use Rattle.calls.specs.declared.Access.the-variants.{Read, Write, Execute, Lookup}
+use Rattle.calls.specs.declared.ObjectCall.the-variants.{Create, Delete, AddPassword, DropPassword, Register}
+use Rattle.calls.specs.declared.DomainCall.the-variants.{Insert, Remove, Get, Lock, PdxCall, PdxReturn}
 use Rattle.calls.specs.declared.Presented.{Presented}
 use Rattle.calls.specs.declared.Entries.{Entries}
 
@@ -78,7 +84,7 @@ module _ (w : World) (f : Frame) (b r : ℕ) (h : sound (w .state) ≡ true) (s 
   found : FoundSound (hasBase b) (w .state) b
   found = based-sound (w .state) b h (was-granted w f (Base b) r s .pages)
 
-  owned-estate : estateOk (estateOf (owned w f b r)) (b / 32) ≡ true
+  owned-estate : estateOk (estateFound (owned w f b r)) (b / 32) ≡ true
   owned-estate = rw (was-granted w f (Base b) r s .judgement) (found .sound-estate)
 
   owned-sound : objectOk (objectOf (owned w f b r)) (b / 32) ≡ true
@@ -87,7 +93,7 @@ module _ (w : World) (f : Frame) (b r : ℕ) (h : sound (w .state) ≡ true) (s 
 
   -- another object with its run, in its place
   owned-becomes : (o : Object) → SameRun o (objectOf (owned w f b r)) → objectOk o (b / 32) ≡ true
-      → estateOk (withObject (estateOf (owned w f b r)) (placeBased (estateOf (owned w f b r)) b) o) (b / 32) ≡ true
+      → estateOk (withObject (estateFound (owned w f b r)) (placeBased (estateFound (owned w f b r)) b) o) (b / 32) ≡ true
   unfolding objectBased based placeBased
   owned-becomes o = rw (was-granted w f (Base b) r s .judgement) (λ m p. found-run-sound (hasBase b) _ (b / 32) o (found .stands) m p (found .sound-estate))
 
@@ -116,7 +122,7 @@ registered-sound o k l es p some few inside =
           (guarded (es .count) i _ (below-at 4 (λ j. leb (es .count) j || covers o (entryOf es j / 64)) inside i (omega arith)) m);
     }
 
-registered-fit : (o : Object) (d b k : ℕ) (l : Presented) (es : Entries) → inRange (Register b k l es) ≡ true
+registered-fit : (o : Object) (d b k : ℕ) (l : Presented) (es : Entries) → inRange (OnObject (Register b k l es)) ≡ true
     → entriesAll (λ a. covers o (a / 64)) es ≡ true → not (hasPassword o k) ≡ true → objectOk o d ≡ true
     → objectOk (withRegistration o (registration k l es)) d ≡ true
 unfolding inRange registration
@@ -146,17 +152,17 @@ entered-sound ch f c p h =
     cond-ind (λ x. frameOk false x ≡ true) (eqb ch 0) (mergeList f c) (onlyList c) (λ e. merge-sound f c p h) (λ e. only-sound c p)
 
 -- THE CHANGES OF A DONE CALL ARE FIT
-pub done-fit : (w : World) (d : ℕ) (c : Call) → sound (w .state) ≡ true → Passes w d c → AllFit (changes d c (seen judged w d c))
-unfolding changes seen late inRange unlocked
-done-fit w d (Read a) h p = tt
-done-fit w d (Write a x) h p = (tt, tt)
-done-fit w d (Execute a) h p = tt
-done-fit w d (Lookup a r) h p = tt
-done-fit w d (Create a n k) h p =
+pub done-fit : (w : World) (d : ℕ) (c : Call) → sound (w .state) ≡ true → Passes w d c → AllFit (changes d c (view judged w d c))
+unfolding changes view late inRange unlocked
+done-fit w d (OnStore (Read a)) h p = tt
+done-fit w d (OnStore (Write a x)) h p = (tt, tt)
+done-fit w d (OnStore (Execute a)) h p = tt
+done-fit w d (OnStore (Lookup a r)) h p = tt
+done-fit w d (OnObject (Create a n k)) h p =
     let r = new-fit (estateAt (w .state .table) d) d _ a n k (state-parts (w .state) h .estate d (p .domain)) (p .rest .0) in
     (r .0, (omega (arith, p .domain, r .1), tt))
-done-fit w d (Delete b) h p = (clear-sound _ (b / 32) _ (owned-estate w (domainAt (w .state) d .active) b 8 h (p .rest .0)), tt)
-done-fit w d (AddPassword b k m) h p =
+done-fit w d (OnObject (Delete b)) h p = (clear-sound _ (b / 32) _ (owned-estate w (domainAt (w .state) d .active) b 8 h (p .rest .0)), tt)
+done-fit w d (OnObject (AddPassword b k m)) h p =
     let f = domainAt (w .state) d .active in
     let o = objectOf (owned w f b 15) in
     let legal = and-right (ltb b 128 && not (eqb k 0)) _ (p .range) in (
@@ -164,37 +170,37 @@ done-fit w d (AddPassword b k m) h p =
           (add-sound o (b / 32) k m (not-true _ (p .rest .1 .0)) legal (owned-sound w f b 15 h (p .rest .0))),
       tt,
     )
-done-fit w d (DropPassword b k) h p =
+done-fit w d (OnObject (DropPassword b k)) h p =
     let f = domainAt (w .state) d .active in
     let o = objectOf (owned w f b 15) in
     (owned-becomes w f b 15 h (p .rest .0) _ (drop-run o k) (drop-sound o (b / 32) k (owned-sound w f b 15 h (p .rest .0))), tt)
-done-fit w d (Register b k l es) h p =
+done-fit w d (OnObject (Register b k l es)) h p =
     let f = domainAt (w .state) d .active in
     let o = objectOf (owned w f b 15) in (
       owned-becomes w f b 15 h (p .rest .0) _ (register-run o (registration k l es))
           (registered-fit o (b / 32) b k l es (p .range) (p .rest .1 .1 .0) (p .rest .1 .1 .1 .0) (owned-sound w f b 15 h (p .rest .0))),
       tt,
     )
-done-fit w d (Insert i l) h p =
+done-fit w d (OnDomain (Insert i l)) h p =
     let m = domainAt (w .state) d in
     let ok = state-parts (w .state) h .domain d (p .domain) in
     let page = ltb-true _ 128 (and-right (ltb i 8) _ (p .range)) in
     (active-sound m _ (insert-sound (m .active) i (capability l) (leb-true i _ (p .rest .1 .1 .0)) page (domain-parts m ok .active)) ok, tt)
-done-fit w d (Remove i) h p =
+done-fit w d (OnDomain (Remove i)) h p =
     let m = domainAt (w .state) d in
     let ok = state-parts (w .state) h .domain d (p .domain) in
     (active-sound m _ (remove-sound (m .active) i (leb-true _ i (and-left _ _ (p .unlocks))) (domain-parts m ok .active)) ok, tt)
-done-fit w d Get h p = tt
-done-fit w d (Lock i) h p =
+done-fit w d (OnDomain Get) h p = tt
+done-fit w d (OnDomain (Lock i)) h p =
     let m = domainAt (w .state) d in
     let ok = state-parts (w .state) h .domain d (p .domain) in (
       active-sound m _
           (lock-sound (m .active) i (λ ne. ltb-true i _ (unless (eqb i 255) _ (p .rest .0) (ne-eqb i 255 ne))) (domain-parts m ok .active)) ok,
       tt,
     )
-done-fit w d (PdxCall a ch) h p =
+done-fit w d (OnDomain (PdxCall a ch)) h p =
     let m = domainAt (w .state) d in
     let ok = state-parts (w .state) h .domain d (p .domain) in
     let page = entered-list w (m .active) a h (p .rest .0) in
     (save-sound m _ (entered-sound ch (m .active) _ page (domain-parts m ok .active)) ok, tt)
-done-fit w d PdxReturn h p = (restore-sound _ (state-parts (w .state) h .domain d (p .domain)), tt)
+done-fit w d (OnDomain PdxReturn) h p = (restore-sound _ (state-parts (w .state) h .domain d (p .domain)), tt)

@@ -11,11 +11,14 @@ use borrow.Author.Tests.{leb-true}
 use Rattle.bounded.specs.Bools.{and-left, and-right}
 use Rattle.judge.specs.Judged.{judged}
 use Rattle.calls.specs.Answers.{refusalNumber, numberOf}
-use Rattle.calls.specs.View.{World, View, view, early, Check, check, firstFailing}
-use Rattle.calls.specs.Checks.{late, checks}
+use Rattle.calls.specs.View.{World, View, Check, check, firstFailing}
+use Rattle.calls.specs.Rules.{view, early, late, checks}
 use Rattle.calls.specs.Step.{stepBy, step, refused, concluded, storeCheck, soundCheck}
 use Rattle.calls.specs.declared.Call.{Call}
-use Rattle.calls.specs.declared.Call.the-variants.{Read, Write, Execute, Lookup, Create, Delete, AddPassword, DropPassword, Register, Insert, Remove, Get, Lock, PdxCall, PdxReturn}
+use Rattle.calls.specs.declared.Call.the-variants.{OnStore, OnObject, OnDomain}
+use Rattle.calls.specs.declared.Access.the-variants.{Read, Write, Execute, Lookup}
+use Rattle.calls.specs.declared.ObjectCall.the-variants.{Create, Delete, AddPassword, DropPassword, Register}
+use Rattle.calls.specs.declared.DomainCall.the-variants.{Insert, Remove, Get, Lock, PdxCall, PdxReturn}
 use Rattle.calls.specs.declared.Refusal.{Refusal}
 use Rattle.calls.specs.declared.Refusal.the-variants.{StoreLength, Unsound, NoDomain, OutOfRange, Locked, NotGranted, NotEntry, NoRun, HasPassword, Full, Missing}
 use Rattle.calls.specs.declared.Answer.{Answer}
@@ -33,21 +36,21 @@ ascending n (check r holds ∷ cs) = leb n (refusalNumber r) && ascending (refus
 -- THE CHECKS COME IN THE PAPER'S ORDER, whatever is read
 pub checks-ascend : (w : World) (d : ℕ) (c : Call) (v : View) → ascending 2 (storeCheck w ∷ soundCheck w ∷ checks d c v) ≡ true
 unfolding ascending checks early late
-checks-ascend w d (Read a) v = refl
-checks-ascend w d (Write a x) v = refl
-checks-ascend w d (Execute a) v = refl
-checks-ascend w d (Lookup a r) v = refl
-checks-ascend w d (Create p n k) v = refl
-checks-ascend w d (Delete b) v = refl
-checks-ascend w d (AddPassword b k m) v = refl
-checks-ascend w d (DropPassword b k) v = refl
-checks-ascend w d (Register b k l es) v = refl
-checks-ascend w d (Insert i l) v = refl
-checks-ascend w d (Remove i) v = refl
-checks-ascend w d Get v = refl
-checks-ascend w d (Lock i) v = refl
-checks-ascend w d (PdxCall a ch) v = refl
-checks-ascend w d PdxReturn v = refl
+checks-ascend w d (OnStore (Read a)) v = refl
+checks-ascend w d (OnStore (Write a x)) v = refl
+checks-ascend w d (OnStore (Execute a)) v = refl
+checks-ascend w d (OnStore (Lookup a r)) v = refl
+checks-ascend w d (OnObject (Create p n k)) v = refl
+checks-ascend w d (OnObject (Delete b)) v = refl
+checks-ascend w d (OnObject (AddPassword b k m)) v = refl
+checks-ascend w d (OnObject (DropPassword b k)) v = refl
+checks-ascend w d (OnObject (Register b k l es)) v = refl
+checks-ascend w d (OnDomain (Insert i l)) v = refl
+checks-ascend w d (OnDomain (Remove i)) v = refl
+checks-ascend w d (OnDomain Get) v = refl
+checks-ascend w d (OnDomain (Lock i)) v = refl
+checks-ascend w d (OnDomain (PdxCall a ch)) v = refl
+checks-ascend w d (OnDomain PdxReturn) v = refl
 
 -- each check of the list holds
 abbrev pub AllHold : List Check → Type 0

@@ -1,6 +1,6 @@
 -- A call is refused and changes nothing, or it passes each check and is done.
 use Prim.Native.Nat.{ℕ, _<_}
-use mathlib.Core.Path.{_≡_, refl, ap, subst, _∙_}
+use mathlib.Core.Path.{_≡_, refl}
 use mathlib.Core.Bool.{true}
 use mathlib.Core.List.{List, _∷_}
 use mathlib.Core.Logic.{_⊎_, inl, inr, ⊎-elim}
@@ -8,13 +8,12 @@ use mathlib.Core.Option.{Option, none, some}
 use lib.ListN.{length}
 use borrow.Author.Tests.{eqb-true, ltb-true}
 use Rattle.state.specs.Places.{domainAt}
-use Rattle.state.specs.Sound.{sound}
+use Rattle.soundness.specs.Sound.{sound}
 use Rattle.judge.specs.Judged.{judged}
 use Rattle.calls.specs.Answers.{valueOf, noFields}
-use Rattle.calls.specs.Arguments.{inRange}
-use Rattle.calls.specs.View.{World, View, Check, firstFailing, unlocked, early, view, seen}
-use Rattle.calls.specs.Checks.{late, checks}
-use Rattle.calls.specs.Step.{Result, refused, done, concluded, storeCheck, stepBy, checkedBy, step, checked}
+use Rattle.calls.specs.View.{World, View, Check, firstFailing}
+use Rattle.calls.specs.Rules.{inRange, unlocked, early, view, late, checks}
+use Rattle.calls.specs.Step.{Result, refused, done, concluded, storeCheck, stepBy, uncheckedBy, step, unchecked}
 use Rattle.calls.specs.Laws.Order.{allChecks, AllHold, none-fails, refused-is}
 use Rattle.calls.specs.declared.Call.{Call}
 use Rattle.calls.specs.declared.Refusal.{Refusal}
@@ -37,31 +36,21 @@ pub record Passes (w : World) (d : ℕ) (c : Call) : Type 0 where
   pub domain : d < 4
   pub range : inRange c ≡ true
   pub unlocks : unlocked c (domainAt (w .state) d .active) ≡ true
-  pub rest : AllHold (late d c (seen judged w d c))
+  pub rest : AllHold (late d c (view judged w d c))
 
 -- what a call comes to
 abbrev pub Refuses : World → Result → Type 0
 Refuses w r = (why : Refusal) × (r ≡ refused w why)
 
 abbrev pub Does : World → ℕ → Call → Result → Type 0
-Does w d c r = Passes w d c × (r ≡ done w d c (seen judged w d c))
+Does w d c r = Passes w d c × (r ≡ done w d c (view judged w d c))
 
--- a call whose checks hold passes, and its view is that of the search
-passed : (w : World) (d : ℕ) (c : Call) → AllHold (storeCheck w ∷ checks d c (view judged w d c))
-    → Passes w d c × (view judged w d c ≡ seen judged w d c)
-unfolding checks early view seen
+-- a call whose checks hold passes
+passed : (w : World) (d : ℕ) (c : Call) → AllHold (storeCheck w ∷ checks d c (view judged w d c)) → Passes w d c
+unfolding checks early view
 passed w d c h =
     let (long, (domain, (range, (unlocks, rest)))) = h in
-    let e : view judged w d c ≡ seen judged w d c = rw (domain, range, unlocks) in (
-      record {
-        long = eqb-true _ 8192 long;
-        domain = ltb-true d 4 domain;
-        range = range;
-        unlocks = unlocks;
-        rest = subst (λ (v : View). AllHold (late d c v)) e rest;
-      },
-      e,
-    )
+    record { long = eqb-true _ 8192 long; domain = ltb-true d 4 domain; range = range; unlocks = unlocks; rest = rest }
 
 module _ (w : World) (d : ℕ) (c : Call) where
   -- of any list of checks one fails, or each holds
@@ -78,12 +67,12 @@ module _ (w : World) (d : ℕ) (c : Call) where
   unfolding stepBy
   step-cases =
       ⊎-elim inl
-      (λ t. let (h, e) = t in let p = passed w d c (h .0, h .1 .1) in inr (h .1 .0, (p .0, e ∙ ap (done w d c) (p .1))))
+      (λ t. let (h, e) = t in inr (h .1 .0, (passed w d c (h .0, h .1 .1), e)))
       (cases (allChecks w d c) (view judged w d c))
 
-  -- after check 3 a call is refused, or passes and is done
-  pub checked-cases : Refuses w (checked w d c) ⊎ Does w d c (checked w d c)
-  unfolding checkedBy
-  checked-cases =
-      ⊎-elim inl (λ t. let (h, e) = t in let p = passed w d c h in inr (p .0, e ∙ ap (done w d c) (p .1)))
+  -- with check 3 left out a call is refused, or passes and is done
+  pub unchecked-cases : Refuses w (unchecked w d c) ⊎ Does w d c (unchecked w d c)
+  unfolding uncheckedBy
+  unchecked-cases =
+      ⊎-elim inl (λ t. let (h, e) = t in inr (passed w d c h, e))
       (cases (storeCheck w ∷ checks d c (view judged w d c)) (view judged w d c))

@@ -1,6 +1,5 @@
--- STORAGE PLACES DO NOT MATTER for the calls: document 01, "Which storage place an object or password occupies within its estate or
--- object is left open; nothing below depends on it"; "what every choice has in common: the same objects, passwords, modes and
--- registrations".
+-- STORAGE PLACES DO NOT MATTER for the calls: document 01, "Ground and bounds", last paragraph. What every choice of places has in
+-- common is `SameWorld`.
 use Prim.Native.Nat.{ℕ, _+_, _*_, _/_, _<_, _≤_}
 use mathlib.Core.Path.{_≡_, refl, ap, sym, subst, _∙_}
 use mathlib.Core.Bool.{Bool, true, false, not, cond, _&&_}
@@ -14,17 +13,21 @@ use Rattle.bounded.specs.Bools.{and-left, and-right}
 use Rattle.bounded.specs.Every.{below-at}
 use Rattle.rights.specs.Bits.{bit}
 use Rattle.state.specs.Places.{freeObject, objectAt, estateAt, estateOf, domainAt}
-use Rattle.state.specs.Sound.{apart, liesIn, sound}
+use Rattle.state.specs.Extent.{apart, liesIn}
 use Rattle.state.specs.Lookup.{objectCovering, objectBased, placeBased, freePlace, placeOf, hasPassword}
 use Rattle.state.specs.Same.{SameObject, SameObjects}
 use Rattle.state.specs.Update.{newObject, withRegistration, addPassword, dropPassword, saveDomain}
-use Rattle.state.specs.Laws.Parts.{not-zero}
-use Rattle.state.specs.Laws.Objects.{SameRun, add-run, drop-run, register-run}
-use Rattle.state.specs.Laws.Found.{covering-answered, based-answered}
-use Rattle.state.specs.Laws.Same.{same-refl, covering-same, based-has-same}
-use Rattle.state.specs.Laws.Full.{password-room-same, Alike, object-room-same, estates-alike}
-use Rattle.state.specs.Laws.PutObject.{putObject, FreeOr, put-same, found-room, free-room, first-free, based-ok, based-base}
-use Rattle.state.specs.Laws.PutPassword.{register-same, add-same, drop-same}
+use Rattle.state.specs.Laws.Extent.{not-zero, SameRun, add-run, drop-run, register-run}
+use Rattle.state.specs.Laws.Same.{same-refl}
+use Rattle.state.specs.Laws.PutObject.{putObject, FreeOr, put-same}
+use Rattle.state.specs.Laws.Lookup.{first-free, based-base}
+use Rattle.state.specs.Laws.PutPassword.{register-same}
+use Rattle.soundness.specs.Sound.{sound}
+use Rattle.soundness.specs.Laws.Found.{covering-answered, based-answered, based-ok}
+use Rattle.soundness.specs.Laws.Same.{covering-same, based-has-same}
+use Rattle.soundness.specs.Laws.Full.{password-room-same, Alike, object-room-same, estates-alike}
+use Rattle.soundness.specs.Laws.ObjectRoom.{found-room, free-room}
+use Rattle.soundness.specs.Laws.PasswordRoom.{add-same, drop-same}
 use Rattle.state.specs.declared.Registration.{Registration}
 use Rattle.state.specs.declared.Object.{Object}
 use Rattle.state.specs.declared.Table.{Table}
@@ -36,14 +39,17 @@ use Rattle.judge.specs.Laws.Places.{live-same, places-apart as judged-apart}
 use Rattle.judge.specs.declared.Target.the-variants.{Address, Base}
 use Rattle.judge.specs.declared.Judgement.{Judgement}
 use Rattle.judge.specs.declared.Judgement.the-variants.{Granted, Refused}
-use Rattle.calls.specs.Arguments.{Want, nothing, rights, wanted, presented, inRange}
-use Rattle.calls.specs.View.{World, View, Found, firstFailing, unlocked, early, foundBy, search, passes, view}
-use Rattle.calls.specs.Checks.{runFree, late, checks}
-use Rattle.calls.specs.Changes.{value, fields, registration, capability, entered, changes, applyAll}
+use Rattle.calls.specs.View.{Want, nothing, rights, World, View, Found, firstFailing, foundBy, search, passes}
+use Rattle.calls.specs.Arguments.{runFree}
+use Rattle.calls.specs.Changes.{registration, capability, entered, applyAll}
+use Rattle.calls.specs.Rules.{wanted, presented, inRange, unlocked, early, view, late, checks, value, fields, changes}
 use Rattle.calls.specs.Step.{Result, world, worldOf, refused, concluded, stepBy, step}
 use Rattle.calls.specs.Laws.Agree.{run-same, inside-same, entry-same}
 use Rattle.calls.specs.declared.Call.{Call}
-use Rattle.calls.specs.declared.Call.the-variants.{Read, Write, Execute, Lookup, Create, Delete, AddPassword, DropPassword, Register, Insert, Remove, Get, Lock, PdxCall, PdxReturn}
+use Rattle.calls.specs.declared.Call.the-variants.{OnStore, OnObject, OnDomain}
+use Rattle.calls.specs.declared.Access.the-variants.{Read, Write, Execute, Lookup}
+use Rattle.calls.specs.declared.ObjectCall.the-variants.{Create, Delete, AddPassword, DropPassword, Register}
+use Rattle.calls.specs.declared.DomainCall.the-variants.{Insert, Remove, Get, Lock, PdxCall, PdxReturn}
 use Rattle.calls.specs.declared.Answer.the-variants.{Done}
 use Rattle.calls.specs.declared.Refusal.{Refusal}
 use Rattle.calls.specs.declared.Refusal.the-variants.{StoreLength, NoDomain, OutOfRange, Locked, NotGranted, NoRun, HasPassword, Full, Missing}
@@ -138,10 +144,10 @@ module _ (t t′ : Table) (ds : List Domain) (words : List ℕ) (d : ℕ) (h : s
       go (some r) g = refuses r
 
   -- CR: a new object at a free place
-  creates : (p n k : ℕ) → inRange (Create p n k) ≡ true → (j : Judgement) → SameResult (comes one d (Create p n k) j) (comes two d (Create p n k) j)
+  creates : (p n k : ℕ) → inRange (OnObject (Create p n k)) ≡ true → (j : Judgement) → SameResult (comes one d (OnObject (Create p n k)) j) (comes two d (OnObject (Create p n k)) j)
   unfolding late changes inRange liesIn runFree newObject
   creates p n k r j =
-      ends (Create p n k) j (rw (run-same d (estateAt t d) (estateAt t′ d) alike (newObject p n k), room)) refl refl
+      ends (OnObject (Create p n k)) j (rw (run-same d (estateAt t d) (estateAt t′ d) alike (newObject p n k), room)) refl refl
       (λ e. let (a, b) = passed (liesIn o d && runFree (estateAt t d) o) _ NoRun e in
       kept _ _ (objects (and-left (liesIn o d) _ a) (and-right (liesIn o d) _ a) (ltb-true _ 8 (passed _ none Full b .0))) _ _)
     where
@@ -205,7 +211,7 @@ module _ (t t′ : Table) (ds : List Domain) (words : List ℕ) (d : ℕ) (h : s
     becomes-run x x′ run m = becoming b x x′ stands (λ z. run .base ∙ based-base t b stands) m
 
     -- AP: a password more
-    adds : (k mode : ℕ) → 0 < k → fails one (AddPassword b k mode) (Granted pair) ≡ none
+    adds : (k mode : ℕ) → 0 < k → fails one (OnObject (AddPassword b k mode)) (Granted pair) ≡ none
         → SameObjects (replaced t b (addPassword o k mode)) (replaced t′ b (addPassword o′ k mode))
     unfolding late
     adds k mode q e =
@@ -221,7 +227,7 @@ module _ (t t′ : Table) (ds : List Domain) (words : List ℕ) (d : ℕ) (h : s
     registers x = becomes-run _ _ (register-run o x) (register-same o o′ x (same b))
 
     -- DP: a password less
-    drops : (k : ℕ) → fails one (DropPassword b k) (Granted pair) ≡ none
+    drops : (k : ℕ) → fails one (OnObject (DropPassword b k)) (Granted pair) ≡ none
         → SameObjects (replaced t b (dropPassword o k)) (replaced t′ b (dropPassword o′ k))
     unfolding late
     drops k e =
@@ -231,10 +237,10 @@ module _ (t t′ : Table) (ds : List Domain) (words : List ℕ) (d : ℕ) (h : s
 
   -- CA: the registration of the object that has the page
   enters : (a ch pair : ℕ) → judged t words (caller .active) (Address a) 16 ≡ Granted pair
-      → SameResult (comes one d (PdxCall a ch) (Granted pair)) (comes two d (PdxCall a ch) (Granted pair))
+      → SameResult (comes one d (OnDomain (PdxCall a ch)) (Granted pair)) (comes two d (OnDomain (PdxCall a ch)) (Granted pair))
   unfolding late changes bit
   enters a ch pair g =
-      ends (PdxCall a ch) (Granted pair) (rw (entry-same o o′ m registered a)) refl refl
+      ends (OnDomain (PdxCall a ch)) (Granted pair) (rw (entry-same o o′ m registered a)) refl refl
       (λ e. record { words = refl; domains = ap (λ x. set ds d (saveDomain caller (entered ch (caller .active) x))) (m .registration .list registered); objects = same })
     where
       o : Object
@@ -255,39 +261,39 @@ module _ (t t′ : Table) (ds : List Domain) (words : List ℕ) (d : ℕ) (h : s
   comes-same : (c : Call) → inRange c ≡ true → (j : Judgement) → judgedOn one (caller .active) (wanted c) ≡ j
       → SameResult (comes one d c j) (comes two d c j)
   unfolding late changes inRange
-  comes-same (Read a) r (Granted p) g = ends (Read a) (Granted p) refl refl refl (λ e. kept t t′ same ds words)
-  comes-same (Read a) r Refused g = refuses NotGranted
-  comes-same (Write a x) r (Granted p) g = ends (Write a x) (Granted p) refl refl refl (λ e. kept t t′ same _ _)
-  comes-same (Write a x) r Refused g = refuses NotGranted
-  comes-same (Execute a) r (Granted p) g = ends (Execute a) (Granted p) refl refl refl (λ e. kept t t′ same ds words)
-  comes-same (Execute a) r Refused g = refuses NotGranted
-  comes-same (Lookup a x) r (Granted p) g = ends (Lookup a x) (Granted p) refl refl refl (λ e. kept t t′ same ds words)
-  comes-same (Lookup a x) r Refused g = refuses NotGranted
-  comes-same (Create p n k) r j g = creates p n k r j
-  comes-same (Delete b) r (Granted p) g =
-      ends (Delete b) (Granted p) refl refl refl
+  comes-same (OnStore (Read a)) r (Granted p) g = ends (OnStore (Read a)) (Granted p) refl refl refl (λ e. kept t t′ same ds words)
+  comes-same (OnStore (Read a)) r Refused g = refuses NotGranted
+  comes-same (OnStore (Write a x)) r (Granted p) g = ends (OnStore (Write a x)) (Granted p) refl refl refl (λ e. kept t t′ same _ _)
+  comes-same (OnStore (Write a x)) r Refused g = refuses NotGranted
+  comes-same (OnStore (Execute a)) r (Granted p) g = ends (OnStore (Execute a)) (Granted p) refl refl refl (λ e. kept t t′ same ds words)
+  comes-same (OnStore (Execute a)) r Refused g = refuses NotGranted
+  comes-same (OnStore (Lookup a x)) r (Granted p) g = ends (OnStore (Lookup a x)) (Granted p) refl refl refl (λ e. kept t t′ same ds words)
+  comes-same (OnStore (Lookup a x)) r Refused g = refuses NotGranted
+  comes-same (OnObject (Create p n k)) r j g = creates p n k r j
+  comes-same (OnObject (Delete b)) r (Granted p) g =
+      ends (OnObject (Delete b)) (Granted p) refl refl refl
       (λ e. kept _ _ (becoming b freeObject freeObject (stands b 8 p g) (λ x. absurd (omega arith)) (same-refl freeObject)) _ _)
-  comes-same (Delete b) r Refused g = refuses NotGranted
-  comes-same (AddPassword b k m) r (Granted p) g =
-      ends (AddPassword b k m) (Granted p) (rw (has b 15 p g k, room b 15 p g)) refl refl
+  comes-same (OnObject (Delete b)) r Refused g = refuses NotGranted
+  comes-same (OnObject (AddPassword b k m)) r (Granted p) g =
+      ends (OnObject (AddPassword b k m)) (Granted p) (rw (has b 15 p g k, room b 15 p g)) refl refl
       (λ e. kept _ _ (adds b 15 p g k m (not-zero k (not-true _ (and-right (ltb b 128) _ (and-left _ _ r)))) e) _ _)
-  comes-same (AddPassword b k m) r Refused g = refuses NotGranted
-  comes-same (DropPassword b k) r (Granted p) g =
-      ends (DropPassword b k) (Granted p) (rw (has b 15 p g k)) refl refl (λ e. kept _ _ (drops b 15 p g k e) _ _)
-  comes-same (DropPassword b k) r Refused g = refuses NotGranted
-  comes-same (Register b k x es) r (Granted p) g =
-      ends (Register b k x es) (Granted p)
+  comes-same (OnObject (AddPassword b k m)) r Refused g = refuses NotGranted
+  comes-same (OnObject (DropPassword b k)) r (Granted p) g =
+      ends (OnObject (DropPassword b k)) (Granted p) (rw (has b 15 p g k)) refl refl (λ e. kept _ _ (drops b 15 p g k e) _ _)
+  comes-same (OnObject (DropPassword b k)) r Refused g = refuses NotGranted
+  comes-same (OnObject (Register b k x es)) r (Granted p) g =
+      ends (OnObject (Register b k x es)) (Granted p)
       (rw (live-same t t′ same (capability x), inside-same (objectBased t b) (objectBased t′ b) (same b) es, has b 15 p g k, same b .registration .password)) refl refl
       (λ e. kept _ _ (registers b 15 p g (registration k x es)) _ _)
-  comes-same (Register b k x es) r Refused g = refuses NotGranted
-  comes-same (Insert i x) r j g =
-      ends (Insert i x) j (rw (live-same t t′ same (capability x))) refl refl (λ e. kept t t′ same _ _)
-  comes-same (Remove i) r j g = ends (Remove i) j refl refl refl (λ e. kept t t′ same _ _)
-  comes-same Get r j g = ends Get j refl refl refl (λ e. kept t t′ same ds words)
-  comes-same (Lock i) r j g = ends (Lock i) j refl refl refl (λ e. kept t t′ same _ _)
-  comes-same (PdxCall a ch) r (Granted p) g = enters a ch p g
-  comes-same (PdxCall a ch) r Refused g = refuses NotGranted
-  comes-same PdxReturn r j g = ends PdxReturn j refl refl refl (λ e. kept t t′ same _ _)
+  comes-same (OnObject (Register b k x es)) r Refused g = refuses NotGranted
+  comes-same (OnDomain (Insert i x)) r j g =
+      ends (OnDomain (Insert i x)) j (rw (live-same t t′ same (capability x))) refl refl (λ e. kept t t′ same _ _)
+  comes-same (OnDomain (Remove i)) r j g = ends (OnDomain (Remove i)) j refl refl refl (λ e. kept t t′ same _ _)
+  comes-same (OnDomain Get) r j g = ends (OnDomain Get) j refl refl refl (λ e. kept t t′ same ds words)
+  comes-same (OnDomain (Lock i)) r j g = ends (OnDomain (Lock i)) j refl refl refl (λ e. kept t t′ same _ _)
+  comes-same (OnDomain (PdxCall a ch)) r (Granted p) g = enters a ch p g
+  comes-same (OnDomain (PdxCall a ch)) r Refused g = refuses NotGranted
+  comes-same (OnDomain PdxReturn) r j g = ends (OnDomain PdxReturn) j refl refl refl (λ e. kept t t′ same _ _)
 
 -- a call on two such worlds, whatever the checks before judging say
 step-same : (t t′ : Table) (ds : List Domain) (words : List ℕ) (d : ℕ) (c : Call) → sound (on t ds words .state) ≡ true → sound (on t′ ds words .state) ≡ true

@@ -6,14 +6,15 @@ use mathlib.Core.List.{List, [], _∷_}
 use mathlib.Core.Logic.{⊎-elim}
 use native.Mathlib.Omega.{arith}
 use lib.ListN.{length, length-append, length-take, length-drop, length-set, length-replicate}
-use Rattle.state.specs.Sound.{sound}
-use Rattle.state.specs.Laws.Domains.{with-domain-sound}
-use Rattle.state.specs.Laws.Estates.{with-estate-sound}
+use Rattle.soundness.specs.Sound.{sound}
+use Rattle.soundness.specs.Laws.Domains.{with-domain-sound}
+use Rattle.soundness.specs.Laws.Estates.{with-estate-sound}
 use Rattle.judge.specs.Judged.{judged}
-use Rattle.calls.specs.View.{World, seen}
-use Rattle.calls.specs.Changes.{Change, word, zeros, estate, domain, changes, zeroed, applyOne, applyAll}
-use Rattle.calls.specs.Step.{Result, step, checked}
-use Rattle.calls.specs.Laws.Passed.{Refuses, Does, step-cases, checked-cases}
+use Rattle.calls.specs.View.{World}
+use Rattle.calls.specs.Changes.{Change, word, zeros, estate, domain, zeroed, applyOne, applyAll}
+use Rattle.calls.specs.Rules.{view, changes}
+use Rattle.calls.specs.Step.{Result, step, unchecked}
+use Rattle.calls.specs.Laws.Passed.{Refuses, Does, step-cases, unchecked-cases}
 use Rattle.calls.specs.Laws.Fit.{Fit, AllFit, done-fit}
 use Rattle.calls.specs.declared.Call.{Call}
 
@@ -48,21 +49,21 @@ module _ (w : World) (d : ℕ) (c : Call) where
   refuses-sound r e h = rw (e .1) h
 
   does-sound : (r : Result) → Does w d c r → sound (w .state) ≡ true → sound (r .outcome .state) ≡ true
-  does-sound r (p, e) h = rw e (all-sound (changes d c (seen judged w d c)) w (done-fit w d c h p) h)
+  does-sound r (p, e) h = rw e (all-sound (changes d c (view judged w d c)) w (done-fit w d c h p) h)
 
   -- EVERY CALL KEEPS A SOUND STATE SOUND
   pub step-sound : sound (w .state) ≡ true → sound (step w d c .outcome .state) ≡ true
   step-sound h = ⊎-elim (λ e. refuses-sound _ e h) (λ e. does-sound _ (e .1) h) (step-cases w d c)
 
-  -- and so after check 3
-  pub checked-sound : sound (w .state) ≡ true → sound (checked w d c .outcome .state) ≡ true
-  checked-sound h = ⊎-elim (λ e. refuses-sound _ e h) (λ e. does-sound _ e h) (checked-cases w d c)
+  -- and so with check 3 left out
+  pub unchecked-sound : sound (w .state) ≡ true → sound (unchecked w d c .outcome .state) ≡ true
+  unchecked-sound h = ⊎-elim (λ e. refuses-sound _ e h) (λ e. does-sound _ e h) (unchecked-cases w d c)
 
   -- NO CALL CHANGES THE STORE'S LENGTH
   pub length-kept : length (step w d c .words) ≡ length (w .words)
   length-kept =
       ⊎-elim (λ e. ap (λ r. length (r .words)) (e .1))
-      (λ e. let p = e .1 .0 in rw (e .1 .1, p .long) (all-length (changes d c (seen judged w d c)) w (done-fit w d c (e .0) p) (p .long))) (step-cases w d c)
+      (λ e. let p = e .1 .0 in rw (e .1 .1, p .long) (all-length (changes d c (view judged w d c)) w (done-fit w d c (e .0) p) (p .long))) (step-cases w d c)
 
   -- a store of 8,192 words stays one
   pub words-kept : length (w .words) ≡ 8192 → length (step w d c .words) ≡ 8192

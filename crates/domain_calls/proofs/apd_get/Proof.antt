@@ -1,13 +1,13 @@
-use mathlib.Core.Path.{_∙_, sym}
+use mathlib.Core.Path.{refl}
 use borrow.Author.Needs.{needs}
-use Rattle.calls.specs.Laws.Checked.{step-checked, step-unsound}
+use Rattle.calls.specs.Rules.{rule, inRange, unlocked, late, changes}
+use Rattle.calls.specs.Laws.Parts.{moves-told}
 use Rattle.domain_calls.proofs.apd_get.Statement.{statement}
 use Rattle.domain_calls.proofs.apd_get.Tie as tie
 
 pub apd-get-spec : {M : Type 1} → statement M
+unfolding rule inRange unlocked late changes
 apd-get-spec =
     tie.close
-    (tie.spec (λ c κs. search needs) (λ c κs. search needs)
-    (λ c. c .apd-get .ensures ∙ sym (step-checked _ _ _ (sym (c .before .before .admits .ensures) ∙ c .before .if1 .taken)))
-    (λ c κs. search needs)
-    (λ c. rw (step-unsound _ _ _ (sym (c .before .before .admits .ensures) ∙ c .before .if1 .left), c .refused .ensures)))
+    (tie.spec (λ c κs. search needs)
+    (λ c t words. moves-told _ _ _ _ refl refl (λ d. refl) (λ d. refl) (λ d. c .frame-fields .ensures) refl (λ d. refl)))

@@ -4,19 +4,14 @@ use mathlib.Core.Bool.{Bool, true, false, cond}
 use mathlib.Core.List.{List, []}
 use lib.Dec.{leb}
 use lib.ListN.{length}
-use borrow.Author.Tests.{lt-ltb, le-ltb}
 use borrow.Author.Needs.{needs}
-use Rattle.bounded.specs.Search.{first}
+use Rattle.bounded.specs.Bools.{cond-same}
 use Rattle.state.specs.declared.Capability.{Capability}
 use Rattle.state.specs.declared.Table.{Table}
-use Rattle.judge.specs.Search.{named, live, runWords, clist, listAt, listVerdict, slotVerdict}
+use Rattle.judge.specs.Search.{named, live, runWords, clist}
 use Rattle.judge.specs.Laws.Lists.{live-base}
 use Rattle.judge.proofs.slot_verdict.Statement.{statement}
 use Rattle.judge.proofs.slot_verdict.Tie as tie
-
-none-read : (b : Bool) → _≡_ {A = List ℕ} (cond b [] []) []
-none-read true = refl
-none-read false = refl
 
 -- the words of the pages that a capability opens are those of the Clist that it names, where it is live
 opened-list : (t : Table) (words : List ℕ) (c : Capability) (n : ℕ) → n ≡ cond (live t c) (named t c .pages) 0
@@ -27,15 +22,12 @@ opened-list t words c n = go (live t c) refl
     go : (b : Bool) → live t c ≡ b → n ≡ cond b (named t c .pages) 0
         → runWords words (c .page) n ≡ cond b (clist words (named t c)) []
     go true h e = rw (e, live-base t c h)
-    go false h e = rw e (none-read (leb (64 * (c .page + 0)) (length words)))
+    go false h e = rw e (cond-same (leb (64 * (c .page + 0)) (length words)) [])
 
 pub slot-verdict-spec : {M : Type 1} → statement M
-unfolding slotVerdict listAt listVerdict first
 slot-verdict-spec =
     tie.close
-    (tie.spec (λ c. search needs) (λ c. rw (le-ltb _ _ (c .if1 .taken))) (λ c. search needs) (λ c. search needs)
-    (λ c κs. search needs) (λ c κs. search needs) (λ c. search needs) (λ c. search needs) (λ c κs. search needs)
+    (tie.spec (λ c κs. search needs) (λ c κs. search needs) (λ c. search needs) (λ c. search needs) (λ c κs. search needs)
     (λ c.
     let n = c .before .before .before in
-    rw (lt-ltb _ _ (n .before .before .if1 .left), ← opened-list _ _ _ _ (n .opened .ensures), ← c .before .before .clist .ensures)
-    (c .list-verdict .ensures)))
+    rw (← opened-list _ _ _ _ (n .opened .ensures), ← c .before .before .clist .ensures) (c .list-verdict .ensures)))

@@ -11,7 +11,7 @@ use Rattle.bounded.specs.Bools.{flag}
 use Rattle.bounded.specs.Search.{FirstAt, NoneAt, first-cases, first-none, first-at}
 use Rattle.rights.specs.Modes.{grants, denies}
 use Rattle.state.specs.Places.{slotAt}
-use Rattle.state.specs.Sound.{free}
+use Rattle.state.specs.Extent.{free}
 use Rattle.state.specs.declared.Object.{Object}
 use Rattle.state.specs.declared.Table.{Table}
 use Rattle.state.specs.declared.Frame.{Frame}

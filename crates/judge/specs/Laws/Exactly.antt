@@ -9,7 +9,7 @@ use lib.Dec.{eqb}
 use Rattle.rights.specs.Modes.{grants, denies}
 use Rattle.rights.specs.Laws.{never-both}
 use Rattle.state.specs.Places.{slotAt}
-use Rattle.state.specs.Sound.{free}
+use Rattle.state.specs.Extent.{free}
 use Rattle.state.specs.declared.Object.{Object}
 use Rattle.state.specs.declared.Table.{Table}
 use Rattle.state.specs.declared.Frame.{Frame}

@@ -11,10 +11,11 @@ use Rattle.rights.specs.Modes.{grants}
 use Rattle.rights.specs.Bits.{bit}
 use Rattle.rights.specs.Laws.{grants-exactly, legal-exactly}
 use Rattle.state.specs.Places.{slotAt}
-use Rattle.state.specs.Sound.{free}
+use Rattle.state.specs.Extent.{free}
 use Rattle.state.specs.Lookup.{ordinaryMode, modeOf}
-use Rattle.state.specs.Laws.Parts.{ObjectBounds}
-use Rattle.state.specs.Laws.Lookup.{Ordinary, has-parts, mode-parts, ordinary-legal}
+use Rattle.state.specs.Laws.Passwords.{Ordinary, has-parts, mode-parts}
+use Rattle.soundness.specs.Laws.ObjectParts.{ObjectBounds}
+use Rattle.soundness.specs.Laws.Passwords.{ordinary-legal}
 use Rattle.state.specs.declared.Object.{Object}
 use Rattle.state.specs.declared.Table.{Table}
 use Rattle.state.specs.declared.Frame.{Frame}
@@ -138,7 +139,7 @@ hint-mode : (o : Object) (word word′ password : ℕ) → word / 256 ≡ word�
 unfolding pairMode
 hint-mode o word word′ password e = rw e
 
--- HINTS NEVER MATTER: "The hint is ignored."
+-- HINTS NEVER MATTER: such stores are judged alike.
 pub hints-ignored : (t : Table) (words words′ : List ℕ) (f : Frame) (target : Target) (wanted : ℕ) → SameButHints words words′
     → judged t words f target wanted ≡ judged t words′ f target wanted
 hints-ignored t words words′ f target wanted m =

@@ -14,8 +14,8 @@ use Rattle.bounded.specs.Bools.{flag, and-right, and-no}
 use Rattle.rights.specs.Modes.{grants, holdsNone}
 use Rattle.state.specs.Places.{slotAt, estateOf}
 use Rattle.state.specs.Lookup.{hasBase, based, objectBased, ordinaryMode, hasPassword}
-use Rattle.state.specs.Laws.Lookup.{base-same, mode-ordinary, parts-has}
-use Rattle.state.specs.Laws.Found.{found-or-free, free-mode}
+use Rattle.state.specs.Laws.Lookup.{base-same, found-or-free}
+use Rattle.state.specs.Laws.Passwords.{mode-ordinary, parts-has, free-mode}
 use Rattle.state.specs.declared.Capability.{Capability}
 use Rattle.state.specs.declared.Object.{Object}
 use Rattle.state.specs.declared.Table.{Table}

@@ -9,7 +9,7 @@ use lib.ListN.{length, getD}
 use Rattle.bounded.specs.Bools.{same-or-not}
 use Rattle.bounded.specs.Search.{first, first-same}
 use Rattle.state.specs.Places.{slotAt}
-use Rattle.state.specs.Sound.{free}
+use Rattle.state.specs.Extent.{free}
 use Rattle.state.specs.Lookup.{objectBased}
 use Rattle.state.specs.declared.Object.{Object}
 use Rattle.state.specs.declared.Table.{Table}
@@ -98,10 +98,10 @@ module _ (t : Table) (words : List ℕ) (f : Frame) (target : Target) (wanted : 
       (λ i j l m. ⊎-elim (λ z. z) (λ n. absurd (h i j l m (pair-true (targeted t target) _ _ (omega arith) .0)))
       (same-or-not (modeAt t words f (targeted t target) i j) 0))
 
-  -- "With .. no object at the address, there is no grant, by the same refusal."
+  -- Rule 4: where no object is asked for, there is no grant.
   pub free-refused : free (targeted t target) ≡ true → judged t words f target wanted ≡ Refused
   free-refused h = refused-exactly t words f target wanted .1 (λ a x. true≢false (sym h ∙ x .stands))
 
--- "a nonempty set of wanted rights": where none is wanted, there is no grant.
+-- Rule 3: where no right is wanted, there is no grant.
 pub none-wanted : (t : Table) (words : List ℕ) (f : Frame) (target : Target) → judged t words f target 0 ≡ Refused
 none-wanted t words f target = refused-exactly t words f target 0 .1 (λ a x. true≢false (x .some-right))

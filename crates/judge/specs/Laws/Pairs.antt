@@ -11,7 +11,7 @@ use borrow.Author.Tests.{eqb-true}
 use Rattle.rights.specs.Modes.{grants, denies}
 use Rattle.state.specs.Places.{slotAt}
 use Rattle.state.specs.Lookup.{modeOf, hasPassword}
-use Rattle.state.specs.Laws.Lookup.{mode-has}
+use Rattle.state.specs.Laws.Passwords.{mode-has}
 use Rattle.state.specs.declared.Object.{Object}
 use Rattle.state.specs.declared.Table.{Table}
 use Rattle.state.specs.declared.Frame.{Frame}
@@ -37,7 +37,7 @@ addressAt f slot place = 64 * slotAt f slot .page + 2 * place
 abbrev pub modeAt : Table → List ℕ → Frame → Object → ℕ → ℕ → ℕ
 modeAt t words f o slot place = pairMode o (firstWord t words f slot place) (secondWord t words f slot place)
 
--- "Pairs are taken by slot from 0, then by place in the Clist": pair j of slot i comes before the pair at `slot` and `place`
+-- rule 2, by slot and then by place: pair j of slot i comes before the pair at `slot` and `place`
 abbrev pub Before : ℕ → ℕ → ℕ → ℕ → Type 0
 Before i j slot place = (i < slot) ⊎ ((i ≡ slot) × (j < place))
 
@@ -53,12 +53,12 @@ EachBefore t words f o P slot place = (i j : ℕ) → Before i j slot place → 
 abbrev pub EachPair : Table → List ℕ → Frame → Object → (ℕ → Type 0) → Type 0
 EachPair t words f o P = (i j : ℕ) → i < 8 → j < pairsAt t words f i → P (modeAt t words f o i j)
 
--- "Other pairs are passed over": a mode that neither grants nor denies the wanted rights
+-- rule 3, a pair passed over: its mode neither grants nor denies the wanted rights
 pub record PassedOver (wanted mode : ℕ) : Type 0 where
   pub no-grant : grants mode wanted ≡ false
   pub no-denial : denies mode wanted ≡ false
 
--- "A capability is true for an object when its page is the base and its password is one of that object's, the registration's included."
+-- a pair of words is true for the object: it names the base, and shows a password that the object or its registration has
 pub record TrueFor (o : Object) (word password : ℕ) : Type 0 where
   pub page : word / 256 ≡ o .base
   pub has : hasPassword o password ≡ true

@@ -1,5 +1,4 @@
--- Storage places do not matter: document 01, "Which storage place an object or password occupies within its estate or object is left open; nothing
--- below depends on it."
+-- Storage places do not matter to the judgement: document 01, "Ground and bounds", last paragraph.
 use Prim.Native.Nat.{ℕ, _<_}
 use mathlib.Core.Path.{_≡_, refl, ap}
 use mathlib.Core.Bool.{true}
@@ -8,9 +7,10 @@ use lib.ListN.{length}
 use lib.Dec.{eqb}
 use Rattle.rights.specs.Modes.{grants}
 use Rattle.state.specs.Places.{slotAt}
-use Rattle.state.specs.Sound.{sound}
 use Rattle.state.specs.Same.{SameObject, SameObjects}
-use Rattle.state.specs.Laws.Same.{mode-same, covering-same}
+use Rattle.state.specs.Laws.Same.{mode-same}
+use Rattle.soundness.specs.Sound.{sound}
+use Rattle.soundness.specs.Laws.Same.{covering-same}
 use Rattle.state.specs.declared.Capability.{Capability}
 use Rattle.state.specs.declared.Object.{Object}
 use Rattle.state.specs.declared.Table.{Table}

@@ -1,6 +1,5 @@
-use mathlib.Core.Path.{_∙_}
 use native.Mathlib.Omega.{arith}
-use Rattle.text.specs.Decimal.{fewest-small, fewest-decimal}
+use Rattle.text.specs.Decimal.{decimal-small, all-digits}
 use borrow.Author.Needs.{needs}
 use Rattle.text.proofs.put_number.Statement.{statement}
 use Rattle.text.proofs.put_number.Tie as tie
@@ -8,14 +7,12 @@ use Rattle.text.proofs.put_number.Tie as tie
 pub put-number-spec : {M : Type 1} → statement M
 put-number-spec =
     tie.close
-    (tie.spec (λ c κs. search needs) (λ c. search needs) (λ c. search needs)
-    (λ c κs.
-    let d = c .before .before .decimal in
-    let h = fewest-small _ _ (c .before .before .before .before .before .fits .n .fits) (d .ensures .1 .0) in
-    omega (arith, d .ensures .0 .1))
-    (λ c. search needs)
+    (tie.spec (λ c. search needs) (λ c. search needs) (λ c κs. search needs) (λ c. search needs)
     (λ c.
-    let d = c .before .before .before .before .before .decimal in
-    let h = fewest-small _ _ (c .before .before .before .before .before .before .before .before .fits .n .fits) (d .ensures .1 .0) in
-    let e = d .ensures .1 .1 ∙ fewest-decimal _ _ h (d .ensures .1 .0) in
-    (rw (← e) (c .before .before .put-bytes .ensures), omega (arith, d .ensures .0 .1, c .before .before .put-bytes .ensures .size))))
+    let put = c .before .before .put-byte .ensures in
+    (rw (decimal-small _ (c .before .before .before .before .if1 .taken)) put, omega (arith, put .size)))
+    (λ c κs. search needs) (λ c κs. search needs) (λ c. search needs)
+    (λ c.
+    let put = c .before .before .put-digits .ensures in
+    let places = c .before .before .before .before .places .ensures in
+    (rw (← all-digits _ _ places) (put .0), omega (arith, put .1, places .few))))

@@ -3,7 +3,7 @@ use mathlib.Core.Path.{_∙_, sym}
 use borrow.Author.Needs.{needs}
 use Rattle.bounded.specs.Search.{Searching, start, next, stop, over}
 use Rattle.state.specs.Places.{freeObject, objectAt}
-use Rattle.state.specs.Sound.{covers}
+use Rattle.state.specs.Extent.{covers}
 use Rattle.state.specs.Lookup.{covering}
 use Rattle.state.proofs.estates.covering.Statement.{statement}
 use Rattle.state.proofs.estates.covering.Tie as tie

@@ -3,7 +3,7 @@ use borrow.Author.Tests.{eq-eqb, ne-eqb}
 use borrow.Author.Needs.{needs}
 use Rattle.bounded.specs.Search.{Searching, start, next, stop, over}
 use Rattle.state.specs.Places.{objectAt}
-use Rattle.state.specs.Sound.{free}
+use Rattle.state.specs.Extent.{free}
 use Rattle.state.specs.Lookup.{freePlace}
 use Rattle.state.proofs.estates.free_place.Statement.{statement}
 use Rattle.state.proofs.estates.free_place.Tie as tie

@@ -1,0 +1,145 @@
+-- What an access answers, for any rights: granted or refused, from what its search gives.
+use Prim.Native.Nat.{ℕ, _<_}
+use mathlib.Core.Path.{_≡_, refl, _∙_}
+use mathlib.Core.Bool.{Bool, true, false, cond, _&&_}
+use mathlib.Core.List.{List, [], _∷_}
+use native.Mathlib.Omega.{arith}
+use lib.Dec.{ltb}
+use lib.ListN.{length, getD, set}
+use borrow.Author.Tests.{ltb-true, lt-ltb}
+use Rattle.rights.specs.Modes.{read, write, execute}
+use Rattle.state.specs.Places.{domainAt}
+use Rattle.state.specs.declared.Table.{Table}
+use Rattle.state.specs.declared.Frame.{Frame}
+use Rattle.state.specs.declared.State.{State}
+use Rattle.judge.specs.Judged.{judged}
+use Rattle.judge.specs.declared.Target.the-variants.{Address}
+use Rattle.judge.specs.declared.Judgement.{Judgement}
+use Rattle.judge.specs.declared.Judgement.the-variants.{Granted, Refused}
+use Rattle.calls.specs.View.{World, rights, search, check, isSome}
+use Rattle.calls.specs.Rules.{rule, inRange, unlocked, late, changes, view}
+use Rattle.calls.specs.Step.{world, result, answeredWith, done, unchecked}
+use Rattle.calls.specs.Parts.{Answers}
+use Rattle.calls.specs.Laws.Returns.{by-range, by-late, by-done}
+use Rattle.calls.specs.declared.Call.the-variants.{OnStore}
+use Rattle.calls.specs.declared.Access.{Access}
+use Rattle.calls.specs.declared.Access.the-variants.{Read, Write, Execute, Lookup}
+use Rattle.calls.specs.declared.Answer.{Answer}
+use Rattle.calls.specs.declared.Answer.the-variants.{Done, Refused as Answer·Refused}
+use Rattle.calls.specs.declared.Refusal.{Refusal}
+use Rattle.calls.specs.declared.Refusal.the-variants.{OutOfRange, NotGranted}
+use Rattle.access_calls.specs.Accessed.{searchOf, accessedBy}
+use Rattle.access_calls.specs.declared.Search.{Search}
+use Rattle.access_calls.specs.declared.Search.the-variants as found
+
+-- a granted search lies in the store, and its judgement is the grant
+granted-by : (n a : ℕ) (j : Judgement) {pair : ℕ} → accessedBy n a j ≡ found.Granted pair → (a < n) × (j ≡ Granted pair)
+granted-by n a j {pair} h = go (ltb a n) refl j h
+  where
+    go : (b : Bool) → ltb a n ≡ b → (j : Judgement) → cond b (searchOf j) (found.Refused OutOfRange) ≡ found.Granted pair → (a < n) × (j ≡ Granted pair)
+    go true e (Granted p) k = (ltb-true a n e, cc)
+    go true e Refused k = let z : _≡_ {A = ℕ} 0 1 = cc in absurd (omega arith)
+    go false e j k = let z : _≡_ {A = ℕ} 0 1 = cc in absurd (omega arith)
+
+-- rights in range leave the address's range alone
+rights-range : (a r : ℕ) → ltb 0 r && ltb r 32 ≡ true → inRange (OnStore (Lookup a r)) ≡ ltb a 8192
+unfolding inRange
+rights-range a r k = go (ltb a 8192)
+  where
+    go : (b : Bool) → b && ltb 0 r && ltb r 32 ≡ b
+    go true = k
+    go false = refl
+
+-- and others are out of it
+pub rights-out : (a r : ℕ) → ltb 0 r && ltb r 32 ≡ false → inRange (OnStore (Lookup a r)) ≡ false
+unfolding inRange
+rights-out a r k = go (ltb a 8192) (ltb 0 r) (ltb r 32) k
+  where
+    go : (x y z : Bool) → y && z ≡ false → x && y && z ≡ false
+    go true y z h = h
+    go false y z h = refl
+
+-- an access at `a` for the rights `r`: the address is its only range, no lock stops it, and check 7 is its search
+module _ (t : Table) (f : Frame) (words : List ℕ) (c : Access) (a r : ℕ) (range : inRange (OnStore c) ≡ ltb a 8192)
+    (free : (g : Frame) → unlocked (OnStore c) g ≡ true)
+    (asks : (d : ℕ) (w : World) → late d (OnStore c) (view judged w d (OnStore c)) ≡ check NotGranted (isSome (search judged w (domainAt (w .state) d .active) (rights (Address a) r))) ∷ []) where
+  -- refused where the search is
+  access-refused : {why : Refusal} → accessedBy (length words) a (judged t words f (Address a) r) ≡ found.Refused why
+      → Answers t f words c (Answer·Refused why) words
+  access-refused {why} h s d e p q = go (ltb a (length words)) refl (judged t words f (Address a) r) refl h
+    where
+      go : (b : Bool) → ltb a (length words) ≡ b → (j : Judgement) → judged t words f (Address a) r ≡ j
+          → cond b (searchOf j) (found.Refused OutOfRange) ≡ found.Refused why → result (answeredWith s (Answer·Refused why)) words ≡ unchecked (world s words) d (OnStore c)
+      go true i (Granted pair) g k = let z : _≡_ {A = ℕ} 0 1 = cc in absurd (omega arith)
+      go true i Refused g k =
+          let w : why ≡ NotGranted = cc in
+          by-late s words d (OnStore c) e {why = NotGranted} (range ∙ rw (← e .long) i) (free _) (rw (asks d (world s words), p, q, g)) (rw w)
+      go false i j g k = let w : why ≡ OutOfRange = cc in by-range s words d (OnStore c) e (range ∙ rw (← e .long) i) (rw w)
+
+  -- done where it is granted
+  access-granted : {pair : ℕ} {x : Answer} {words′ : List ℕ} → accessedBy (length words) a (judged t words f (Address a) r) ≡ found.Granted pair
+      → ((s : State) (d : ℕ) → judged (s .table) words (domainAt s d .active) (Address a) r ≡ Granted pair
+      → result (answeredWith s x) words′ ≡ done (world s words) d (OnStore c) (view judged (world s words) d (OnStore c)))
+      → Answers t f words c x words′
+  access-granted {pair} h k s d e p q =
+      let (l, g) = granted-by (length words) a (judged t words f (Address a) r) h in
+      let i : ltb a 8192 ≡ true = rw (← e .long) (lt-ltb a (length words) l) in
+      let u : judged (s .table) words (domainAt s d .active) (Address a) r ≡ Granted pair = rw (p, q) g in
+      by-done s words d (OnStore c) e (range ∙ i) (free _) (rw (asks d (world s words), u)) (k s d u)
+
+-- the address of an access, the rights that it wants, and whether these are in range
+abbrev pub addressOf : Access → ℕ
+addressOf (Read a) = a
+addressOf (Write a x) = a
+addressOf (Execute a) = a
+addressOf (Lookup a r) = a
+
+abbrev pub rightsOf : Access → ℕ
+rightsOf (Read a) = read
+rightsOf (Write a x) = write
+rightsOf (Execute a) = execute
+rightsOf (Lookup a r) = r
+
+abbrev pub rightsOk : Access → Bool
+rightsOk (Read a) = true
+rightsOk (Write a x) = true
+rightsOk (Execute a) = true
+rightsOk (Lookup a r) = ltb 0 r && ltb r 32
+
+-- what a granted one answers, and the words that it leaves
+abbrev pub gives : Access → List ℕ → ℕ → ℕ
+gives (Read a) words pair = getD words a 0
+gives (Write a x) words pair = 0
+gives (Execute a) words pair = a
+gives (Lookup a r) words pair = pair
+
+abbrev pub leaves : Access → List ℕ → List ℕ
+leaves (Read a) words = words
+leaves (Write a x) words = set words a x
+leaves (Execute a) words = words
+leaves (Lookup a r) words = words
+
+module _ (t : Table) (f : Frame) (words : List ℕ) where
+  -- the search of an access
+  abbrev pub searched : Access → Search
+  searched c = accessedBy (length words) (addressOf c) (judged t words f (Address (addressOf c)) (rightsOf c))
+
+  -- a granted one lies in the store
+  pub within : (c : Access) {pair : ℕ} → searched c ≡ found.Granted pair → addressOf c < length words
+  within c h = granted-by (length words) (addressOf c) (judged t words f (Address (addressOf c)) (rightsOf c)) h .0
+
+  -- AN ACCESS IS REFUSED AS ITS SEARCH IS
+  pub refused : (c : Access) {why : Refusal} → rightsOk c ≡ true → searched c ≡ found.Refused why → Answers t f words c (Answer·Refused why) words
+  unfolding inRange unlocked late view
+  refused (Read a) k h = access-refused t f words (Read a) a read refl (λ g. refl) (λ d w. refl) h
+  refused (Write a x) k h = access-refused t f words (Write a x) a write refl (λ g. refl) (λ d w. refl) h
+  refused (Execute a) k h = access-refused t f words (Execute a) a execute refl (λ g. refl) (λ d w. refl) h
+  refused (Lookup a r) k h = access-refused t f words (Lookup a r) a r (rights-range a r k) (λ g. refl) (λ d w. refl) h
+
+  -- AND DONE WHERE IT IS GRANTED
+  pub granted : (c : Access) {pair : ℕ} → rightsOk c ≡ true → searched c ≡ found.Granted pair → Answers t f words c (Done (gives c words pair)) (leaves c words)
+  unfolding inRange unlocked late view changes rule
+  granted (Read a) k h = access-granted t f words (Read a) a read refl (λ g. refl) (λ d w. refl) h (λ s d u. rw u)
+  granted (Write a x) k h = access-granted t f words (Write a x) a write refl (λ g. refl) (λ d w. refl) h (λ s d u. refl)
+  granted (Execute a) k h = access-granted t f words (Execute a) a execute refl (λ g. refl) (λ d w. refl) h (λ s d u. refl)
+  granted (Lookup a r) k h = access-granted t f words (Lookup a r) a r (rights-range a r k) (λ g. refl) (λ d w. refl) h (λ s d u. rw u)

@@ -1,0 +1,2 @@
+pub mod Accessed
+pub mod Laws

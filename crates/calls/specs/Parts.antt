@@ -1,0 +1,81 @@
+-- What the code of the calls promises behind check 3: a function takes the parts of the state that its call reads, and hands back the answer
+-- beside the part that the call changes. Put into any state with these parts, they make what the call does there.
+use Prim.Native.Nat.{ℕ, _/_, _<_}
+use mathlib.Core.Path.{_≡_}
+use mathlib.Core.Bool.{cond}
+use mathlib.Core.List.{List}
+use lib.Dec.{ltb, eqb}
+use lib.ListN.{length}
+use Rattle.state.specs.Places.{estateAt, estateOf, domainAt}
+use Rattle.state.specs.Lookup.{placeBased}
+use Rattle.state.specs.Update.{withObject, withEstate, withDomain}
+use Rattle.state.specs.declared.Object.{Object}
+use Rattle.state.specs.declared.Table.{Table}
+use Rattle.state.specs.declared.Frame.{Frame}
+use Rattle.state.specs.declared.Domain.{Domain}
+use Rattle.state.specs.declared.State.{State}
+use Rattle.calls.specs.Answers.{noFields}
+use Rattle.calls.specs.Step.{world, result, answeredWith, unchecked}
+use Rattle.calls.specs.declared.Call.the-variants.{OnStore, OnObject, OnDomain}
+use Rattle.calls.specs.declared.Access.{Access}
+use Rattle.calls.specs.declared.ObjectCall.{ObjectCall}
+use Rattle.calls.specs.declared.DomainCall.{DomainCall}
+use Rattle.calls.specs.declared.Answer.{Answer}
+use Rattle.calls.specs.declared.Answer.the-variants.{Done, Refused as Answer·Refused}
+use Rattle.calls.specs.declared.Outcome.{Outcome}
+use Rattle.calls.specs.declared.Altered.{Altered}
+use Rattle.calls.specs.declared.Moved.{Moved}
+use Rattle.calls.specs.declared.Caller.{Caller}
+use Rattle.calls.specs.declared.Caller.the-variants.{Known, Refused}
+use Rattle.calls.specs.declared.Refusal.{Refusal}
+use Rattle.calls.specs.declared.Refusal.the-variants.{StoreLength, NoDomain, OutOfRange}
+
+-- checks 2 and 4, of a store with so many words
+abbrev pub callerOf : ℕ → ℕ → Caller
+callerOf n d = cond (eqb n 8192) (cond (ltb d 4) (Known d) (Refused NoDomain)) (Refused StoreLength)
+
+-- both passed
+pub record Entered (words : List ℕ) (d : ℕ) : Type 0 where
+  pub long : length words ≡ 8192
+  pub known : d < 4
+
+-- what is handed back: by a refused call on objects an estate as it is, by one on the caller's domain that domain, done or refused
+abbrev pub unaltered : Table → Refusal → Altered
+unaltered t why = record { answer = Answer·Refused why; place = 0; estate = estateAt t 0 }
+
+-- where the object with a base becomes another, its estate with that
+abbrev pub becoming : Table → ℕ → Object → Altered
+becoming t b o =
+    cond (ltb b 128) (record { answer = Done 0; place = b / 32; estate = withObject (estateOf t b) (placeBased (estateOf t b) b) o })
+    (unaltered t OutOfRange)
+
+abbrev pub moved : Domain → ℕ → Moved
+moved m value = record { answer = Done value; fields = noFields; domain = m }
+
+abbrev pub stays : Domain → Refusal → Moved
+stays m why = record { answer = Answer·Refused why; fields = noFields; domain = m }
+
+-- an estate, and the domain of the caller, put into a state
+abbrev pub withAltered : State → Altered → Outcome
+withAltered s r = answeredWith (withEstate s (r .place) (r .estate)) (r .answer)
+
+abbrev pub withMoved : State → ℕ → Moved → Outcome
+withMoved s d r = record { answer = r .answer; fields = r .fields; state = withDomain s d (r .domain) }
+
+-- AN ACCESS, by a table and the caller's frame: its answer, and the words after it; the state stays as it is
+abbrev pub Answers : Table → Frame → List ℕ → Access → Answer → List ℕ → Type 0
+Answers t f words c a words′ =
+    (s : State) (d : ℕ) → Entered words d → s .table ≡ t → domainAt s d .active ≡ f
+    → result (answeredWith s a) words′ ≡ unchecked (world s words) d (OnStore c)
+
+-- A CALL ON OBJECTS, by a table, the caller and its frame: its answer beside an estate, and the words after it
+abbrev pub Alters : Table → ℕ → Frame → List ℕ → ObjectCall → Altered → List ℕ → Type 0
+Alters t d f words c r words′ =
+    (s : State) → Entered words d → s .table ≡ t → domainAt s d .active ≡ f
+    → result (withAltered s r) words′ ≡ unchecked (world s words) d (OnObject c)
+
+-- A CALL ON THE CALLER'S DOMAIN, by a table and that domain: its answer beside the domain
+abbrev pub Moves : Table → Domain → List ℕ → DomainCall → Moved → Type 0
+Moves t m words c r =
+    (s : State) (d : ℕ) → Entered words d → s .table ≡ t → domainAt s d ≡ m
+    → result (withMoved s d r) words ≡ unchecked (world s words) d (OnDomain c)

@@ -1,0 +1,112 @@
+// What a call hands back, and how it is put into the state.
+use crate::Altered;
+use crate::Answer;
+use crate::Fields;
+use crate::Moved;
+use crate::Outcome;
+use crate::Refusal;
+use state::Domain;
+use state::Object;
+use state::State;
+use state::Table;
+use state::estates::place_based;
+use state::estates::with_domain;
+use state::estates::with_estate;
+use state::estates::with_object;
+ghost use mathlib.Core.Path.{_≡_};
+ghost use Rattle.calls.specs.Answers.{noFields};
+ghost use Rattle.calls.specs.Step.{answeredWith};
+ghost use Rattle.calls.specs.Parts.{unaltered, becoming, moved, stays, withAltered, withMoved};
+
+// No fields.
+pub fn no_fields() -> Fields
+    ensures { λ r. ⌜ r ≡ noFields ⌝ }
+{
+    Fields {
+        count: 0,
+        values: [0; 11],
+    }
+}
+
+// An answer without fields, with the state after it.
+pub fn answered(s: State, a: Answer) -> Outcome
+    ensures { λ r. ⌜ r ≡ answeredWith s a ⌝ }
+{
+    Outcome {
+        answer: a,
+        fields: no_fields(),
+        state: s,
+    }
+}
+
+// The outcome of a call on objects: its estate put into the state.
+pub fn put_estate(s: State, r: Altered) -> Outcome
+    ensures { λ o. ⌜ o ≡ withAltered s r ⌝ }
+{
+    let a = r.answer;
+    let e = r.estate;
+    answered(with_estate(s, r.place, e), a)
+}
+
+// The outcome of a call on domain d: the domain put into the state.
+pub fn put_domain(s: State, d: usize, r: Moved) -> Outcome
+    ensures { λ o. ⌜ o ≡ withMoved s d r ⌝ }
+{
+    let a = r.answer;
+    let f = r.fields;
+    let m = r.domain;
+    Outcome {
+        answer: a,
+        fields: f,
+        state: with_domain(s, d, m),
+    }
+}
+
+// A refused call on objects.
+pub fn unaltered(t: Table, why: Refusal) -> Altered
+    ensures { λ r. ⌜ r ≡ unaltered t why ⌝ }
+{
+    Altered {
+        answer: Answer::Refused(why),
+        place: 0,
+        estate: t.estates[0],
+    }
+}
+
+// A done call on objects, in which the object with the base has become another.
+pub fn becomes(t: Table, base: u64, o: Object) -> Altered
+    ensures { λ r. ⌜ r ≡ becoming t base o ⌝ }
+{
+    if 128 <= base {
+        return unaltered(t, Refusal::OutOfRange);
+    }
+    let place = (base / 32) as usize;
+    let e = t.estates[place];
+    Altered {
+        answer: Answer::Done(0),
+        place: place,
+        estate: with_object(e, place_based(e, base), o),
+    }
+}
+
+// A done call on the caller's domain, which is now m.
+pub fn moved(m: Domain, value: u64) -> Moved
+    ensures { λ r. ⌜ r ≡ moved m value ⌝ }
+{
+    Moved {
+        answer: Answer::Done(value),
+        fields: no_fields(),
+        domain: m,
+    }
+}
+
+// A refused one.
+pub fn stays(m: Domain, why: Refusal) -> Moved
+    ensures { λ r. ⌜ r ≡ stays m why ⌝ }
+{
+    Moved {
+        answer: Answer::Refused(why),
+        fields: no_fields(),
+        domain: m,
+    }
+}

@@ -1,0 +1,4 @@
+pub mod Runs
+pub mod Marked
+pub mod Nested
+pub mod Locks

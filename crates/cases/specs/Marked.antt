@@ -1,0 +1,90 @@
+-- The marked cases of document 01, "The call program" and "Around the edges": one table, proved in one go.
+use Prim.Native.Nat.{ℕ}
+use mathlib.Core.Path.{_≡_, refl}
+use mathlib.Core.List.{List, [], _∷_, _++_, map}
+use lib.ListN.{replicate}
+use Rattle.judge.specs.Judged.{judged}
+use Rattle.calls.specs.View.{Judging}
+use Rattle.calls.specs.Step.{Result, worldOf, answerOf}
+use Rattle.calls.specs.Boot.{boot}
+use Rattle.cases.specs.Runs.{Line, by, answersBy, expected, by-search}
+use Rattle.calls.specs.declared.Call.the-variants.{OnStore, OnObject, OnDomain}
+use Rattle.calls.specs.declared.Access.the-variants.{Read, Write, Lookup}
+use Rattle.calls.specs.declared.ObjectCall.the-variants.{Create, AddPassword, Register}
+use Rattle.calls.specs.declared.DomainCall.the-variants.{Remove, Get, Lock, PdxCall, PdxReturn}
+
+-- the boot of the listing, on a store of zeros
+abbrev pub listingBoot : Result
+listingBoot = boot (replicate 8192 0) 0 (11 ∷ 12 ∷ 13 ∷ 14 ∷ [])
+
+-- the listing of "The call program" behind its boot
+abbrev pub listing : List Line
+listing =
+    by 0 (OnStore (Read 0)) (0 ∷ 15 ∷ [])
+    ∷ by 1 (OnStore (Read 2048)) (0 ∷ 8207 ∷ [])
+    ∷ by 0 (OnStore (Read 2048)) (7 ∷ 0 ∷ [])
+    ∷ by 0 (OnObject (Create 1 1 21)) (0 ∷ 0 ∷ [])
+    ∷ by 0 (OnStore (Read 64)) (7 ∷ 0 ∷ [])
+    ∷ by 0 (OnStore (Write 2 256)) (0 ∷ 0 ∷ [])
+    ∷ by 0 (OnStore (Write 3 21)) (0 ∷ 0 ∷ [])
+    ∷ by 0 (OnStore (Lookup 64 3)) (0 ∷ 2 ∷ [])
+    ∷ by 0 (OnDomain PdxReturn) (12 ∷ 0 ∷ [])
+    ∷ by 0 (OnDomain Get) (0 ∷ 1 ∷ 0 ∷ 0 ∷ 0 ∷ [])
+    ∷ []
+
+abbrev pub mode130 : ℕ → ℕ → List Line
+mode130 third fifth =
+    by 0 (OnObject (AddPassword 1 22 130)) (0 ∷ 0 ∷ [])
+    ∷ by 0 (OnStore (Write 3 third)) (0 ∷ 0 ∷ [])
+    ∷ by 0 (OnStore (Write 4 256)) (0 ∷ 0 ∷ [])
+    ∷ by 0 (OnStore (Write 5 fifth)) (0 ∷ 0 ∷ [])
+    ∷ []
+
+-- domain 1 registers its page 33, and domain 0 gets the capability
+abbrev pub registered : List Line
+registered =
+    by 1 (OnObject (Create 33 1 31)) (0 ∷ 0 ∷ [])
+    ∷ by 1 (OnStore (Write 2050 8448)) (0 ∷ 0 ∷ [])
+    ∷ by 1 (OnStore (Write 2051 31)) (0 ∷ 0 ∷ [])
+    ∷ by 1
+    (OnObject (Register 33 32 (record { page = 32; password = 12 })
+    (record { count = 1; first = 2112; second = 0; third = 0; fourth = 0 })))
+    (0 ∷ 0 ∷ [])
+    ∷ by 0 (OnStore (Write 4 8448)) (0 ∷ 0 ∷ [])
+    ∷ by 0 (OnStore (Write 5 32)) (0 ∷ 0 ∷ [])
+    ∷ []
+
+-- the cases; each starts after the whole listing
+abbrev pub cases : List (List Line)
+cases =
+    (by 0 (OnStore (Read 8192)) (5 ∷ 0 ∷ []) ∷ by 0 (OnStore (Read 8191)) (7 ∷ 0 ∷ []) ∷ [])
+    ∷ (by 0 (OnObject (Create 31 2 9)) (9 ∷ 0 ∷ []) ∷ by 0 (OnObject (Create 31 1 9)) (0 ∷ 0 ∷ []) ∷ [])
+    ∷ (by 0 (OnDomain (Lock 0)) (0 ∷ 0 ∷ []) ∷ by 0 (OnDomain (Remove 0)) (6 ∷ 0 ∷ []) ∷ [])
+    ∷ (mode130 21 22 ++ by 0 (OnStore (Write 64 5)) (0 ∷ 0 ∷ []) ∷ [])
+    ∷ (mode130 22 21 ++ by 0 (OnStore (Write 64 5)) (7 ∷ 0 ∷ []) ∷ by 0 (OnStore (Read 64)) (0 ∷ 0 ∷ []) ∷ [])
+    ∷ (registered
+    ++ by 0 (OnDomain (PdxCall 2113 0)) (8 ∷ 0 ∷ [])
+    ∷ by 0 (OnDomain (PdxCall 2112 0)) (0 ∷ 2112 ∷ [])
+    ∷ by 0 (OnStore (Read 2048)) (0 ∷ 8207 ∷ [])
+    ∷ by 0 (OnDomain PdxReturn) (0 ∷ 0 ∷ [])
+    ∷ by 0 (OnStore (Read 2048)) (7 ∷ 0 ∷ [])
+    ∷ [])
+    ∷ (registered
+    ++ by 0 (OnDomain (PdxCall 2112 1)) (0 ∷ 2112 ∷ [])
+    ∷ by 0 (OnStore (Read 0)) (7 ∷ 0 ∷ [])
+    ∷ by 0 (OnDomain PdxReturn) (0 ∷ 0 ∷ [])
+    ∷ by 0 (OnStore (Read 0)) (0 ∷ 15 ∷ [])
+    ∷ [])
+    ∷ []
+
+-- the whole table: the boot's answer, and the answers of each run
+abbrev pub answered : Judging → List (List (List ℕ))
+answered judging = (answerOf listingBoot ∷ []) ∷ map (λ (ls : List Line). answersBy judging (worldOf listingBoot) (listing ++ ls)) cases
+
+abbrev pub wantedAnswers : List (List (List ℕ))
+wantedAnswers = ((0 ∷ 0 ∷ []) ∷ []) ∷ map (λ (ls : List Line). expected (listing ++ ls)) cases
+
+-- every marked case is answered as the paper says
+pub marked : answered judged ≡ wantedAnswers
+unfolding answersBy
+marked = by-search (λ j. answered j ≡ wantedAnswers) refl

@@ -1,0 +1,1 @@
+// No code: runs of calls, computed by the definitions.

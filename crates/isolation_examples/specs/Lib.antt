@@ -1,0 +1,5 @@
+pub mod Decided
+pub mod Compared
+pub mod Shown
+pub mod Holds
+pub mod Needed

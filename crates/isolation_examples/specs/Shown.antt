@@ -1,0 +1,70 @@
+-- Runs told by their lines, and what is shown of two of them.
+use Prim.Native.Nat.{ℕ}
+use mathlib.Core.Path.{_≡_, ap, sym, _∙_}
+use mathlib.Core.Bool.{Bool, true, not, _&&_, true≢false}
+use mathlib.Core.List.{List, [], _∷_, map}
+use lib.ListN.{replicate}
+use Rattle.judge.specs.Search.{searched}
+use Rattle.judge.specs.Judged.{judged}
+use Rattle.calls.specs.View.{Judging}
+use Rattle.cases.specs.Runs.{Line, answersBy, expected, by-search}
+use Rattle.calls.specs.declared.Call.{Call}
+use Rattle.calls.specs.declared.Call.the-variants.{OnObject}
+use Rattle.calls.specs.declared.ObjectCall.the-variants.{Register}
+use Rattle.isolation.specs.Group.{Group}
+use Rattle.isolation.specs.Runs.{Event, Run, startOf}
+use Rattle.isolation.specs.Claim.{Isolated}
+use Rattle.isolation_examples.specs.Decided.{Tests, testsBy}
+use Rattle.isolation_examples.specs.Compared.{Parts, partsBy, parts-hold}
+
+-- a run, each call with the number and values that it must answer
+pub record Told : Type 0 where
+  pub store : List ℕ
+  pub booter : ℕ
+  pub homes : List ℕ
+  pub lines : List Line
+
+abbrev pub eventOf : Line → Event
+eventOf l = record { domain = l .domain; call = l .call }
+
+abbrev pub runOf : Told → Run
+runOf t = record { store = t .store; booter = t .booter; homes = t .homes; events = map eventOf (t .lines) }
+
+-- two runs shown by computing: every answer, every premise's test, every part of the conclusion
+pub record Shown (judging : Judging) (G : Group) (t t′ : Told) (tests : Tests) (parts : Parts) : Type 0 where
+  pub answered : answersBy judging (startOf (runOf t)) (t .lines) ≡ expected (t .lines)
+  pub answered′ : answersBy judging (startOf (runOf t′)) (t′ .lines) ≡ expected (t′ .lines)
+  pub tested : testsBy judging G (runOf t) (runOf t′) ≡ tests
+  pub compared : partsBy judging G (runOf t) (runOf t′) ≡ parts
+
+-- what the search computes holds of the judgement
+pub by-computing : (G : Group) (t t′ : Told) (tests : Tests) (parts : Parts) → Shown searched G t t′ tests parts → Shown judged G t t′ tests parts
+by-computing G t t′ tests parts s = by-search (λ j. Shown j G t t′ tests parts) s
+
+-- some part of the conclusion differs
+abbrev pub differ : Parts → Bool
+differ p = not (p .answers && p .words && p .objects && p .domains)
+
+-- then the conclusion fails
+pub fails : {G : Group} {t t′ : Told} {tests : Tests} {parts : Parts} → Shown judged G t t′ tests parts → differ parts ≡ true
+    → Isolated G (runOf t) (runOf t′) → ⊥
+fails {G} {t} {t′} s h i =
+    let e = sym (s .compared) ∙ parts-hold G (runOf t) (runOf t′) i in true≢false (sym h ∙ ap differ e)
+
+-- a boot with the home passwords 11, 12, 13, 14 on a store of zeros
+abbrev pub told : List Line → Told
+told ls = record { store = replicate 8192 0; booter = 0; homes = 11 ∷ 12 ∷ 13 ∷ 14 ∷ []; lines = ls }
+
+-- a registration with one entry
+abbrev pub registers : ℕ → ℕ → ℕ → ℕ → ℕ → Call
+registers base password page list entry =
+    OnObject
+    (Register base password (record { page = page; password = list })
+    (record { count = 1; first = entry; second = 0; third = 0; fourth = 0 }))
+
+-- what a done call without a value answers, and a refused one
+abbrev pub done : List ℕ
+done = 0 ∷ 0 ∷ []
+
+abbrev pub refuses : ℕ → List ℕ
+refuses n = n ∷ 0 ∷ []

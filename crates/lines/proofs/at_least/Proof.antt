@@ -1,8 +1,0 @@
-use borrow.Author.Tests.{le-leb, lt-leb}
-use Rattle.lines.proofs.at_least.Statement.{statement}
-use Rattle.lines.proofs.at_least.Tie as tie
-
-pub at-least-spec : {M : Type 1} → statement M
-at-least-spec =
-    tie.close
-    (tie.spec (λ c. rw (le-leb _ _ (c .if1 .taken))) (λ c. rw (lt-leb _ _ (c .if1 .left))))

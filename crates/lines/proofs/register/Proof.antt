@@ -1,8 +1,0 @@
-use borrow.Author.Needs.{needs}
-use Rattle.lines.proofs.register.Statement.{statement}
-use Rattle.lines.proofs.register.Tie as tie
-
-pub register-spec : {M : Type 1} → statement M
-register-spec =
-    tie.close
-    (tie.spec (λ c κs. search needs) (λ c. rw (c .entry-count .ensures)))

@@ -1,0 +1,107 @@
+// The fields of a line: where they end, and the numbers that they hold.
+use crate::Field;
+ghost use mathlib.Core.Path.{_≡_};
+ghost use Prim.Native.Nat.{_+_, _-_, _<_, _≤_};
+ghost use lib.ListN.{length, drop, getD};
+ghost use Rattle.lines.specs.Number.{after as Number·after, grown as Number·grown, numberOf};
+ghost use Rattle.lines.specs.Until.{until};
+
+// The number v with one digit more.
+fn grown(v: u64, b: u8) -> Field
+    requires { ⌜ (48 ≤ b) × (b ≤ 57) ⌝ }
+    ensures { λ r. ⌜ r ≡ Number·grown v b ⌝ }
+{
+    let d = (b - 48) as u64;
+    if v == 0 {
+        return Field::Bad;
+    }
+    if v > (18446744073709551615 - d) / 10 {
+        return Field::Bad;
+    }
+    Field::Number(v * 10 + d)
+}
+
+// A field after one byte more.
+fn after(f: Field, b: u8) -> Field
+    ensures { λ r. ⌜ r ≡ Number·after f b ⌝ }
+{
+    if b < 48 {
+        return Field::Bad;
+    }
+    if b > 57 {
+        return Field::Bad;
+    }
+    match f {
+        Field::Empty => return Field::Number((b - 48) as u64),
+        Field::Number(v) => return grown(v, b),
+        Field::Bad => return Field::Bad,
+    }
+}
+
+// A field byte by byte.
+fn long_number(s: &[u8]) -> Field
+    ensures { λ r. ⌜ r ≡ numberOf (now (s .entry)) ⌝ }
+{
+    let mut f = Field::Empty;
+    let mut i = 0;
+    while i < s.len() {
+        f = after(f, s[i]);
+        i += 1;
+    }
+    f
+}
+
+// A field of up to 19 bytes that does not begin with 0: no digit more makes its number too large.
+fn short_number(s: &[u8]) -> Field
+    requires { ⌜ (0 < length (now s)) × (length (now s) ≤ 19) × (getD (now s) 0 0 ≡ 48 → ⊥) ⌝ }
+    ensures { λ r. ⌜ r ≡ numberOf (now (s .entry)) ⌝ }
+{
+    let mut v = 0;
+    let mut i = 0;
+    while i < s.len() {
+        let b = s[i];
+        if b < 48 {
+            return Field::Bad;
+        }
+        if b > 57 {
+            return Field::Bad;
+        }
+        v = v * 10 + (b - 48) as u64;
+        i += 1;
+    }
+    Field::Number(v)
+}
+
+// A field: the digits of a number below 2^64, with no needless zero in front.
+pub fn number(s: &[u8]) -> Field
+    ensures { λ r. ⌜ r ≡ numberOf (now (s .entry)) ⌝ }
+{
+    let n = s.len();
+    if n == 0 {
+        return Field::Empty;
+    }
+    if n > 19 {
+        return long_number(s);
+    }
+    if s[0] != 48 {
+        return short_number(s);
+    }
+    if n == 1 {
+        return Field::Number(0);
+    }
+    Field::Bad
+}
+
+// Where the first byte b from `from` on stands, or the end.
+pub fn find(s: &[u8], from: usize, b: u8) -> usize
+    ensures { λ r. ⌜ (r ≡ from + until b (drop from (now (s .entry)))) × (from ≤ r) × (r ≤ from + (length (now (s .entry)) - from)) ⌝ }
+{
+    let mut i = from;
+    while i < s.len() {
+        if s[i] == b {
+            return i;
+        }
+        i += 1;
+    }
+    i
+}

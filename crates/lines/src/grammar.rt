@@ -1,0 +1,242 @@
+// The call letters, with the arguments that each call takes.
+use crate::Eight;
+use crate::Homes;
+use crate::Line;
+use calls::Access;
+use calls::Call;
+use calls::DomainCall;
+use calls::Entries;
+use calls::ObjectCall;
+use calls::Presented;
+ghost use mathlib.Core.Path.{_≡_};
+ghost use Prim.Native.Nat.{_+_, _-_, _*_};
+ghost use Rattle.calls.specs.declared.Call.the-variants.{OnStore, OnObject, OnDomain};
+ghost use Rattle.calls.specs.declared.Access.the-variants.{Write, Lookup};
+ghost use Rattle.calls.specs.declared.ObjectCall.the-variants.{Create, AddPassword, DropPassword};
+ghost use Rattle.calls.specs.declared.DomainCall.the-variants.{Insert, PdxCall};
+ghost use Rattle.lines.specs.Grammar.{homesFrom, lettersOf, exactly as Grammar·exactly, atLeast, bootOf, registerOf, domainCallOf, objectCallOf, callOf};
+
+fn pair(a: u8, b: u8) -> u64
+    ensures { λ r. ⌜ r ≡ a * 256 + b ⌝ }
+{
+    a as u64 * 256 + b as u64
+}
+
+// Two letters as one number.
+pub fn letters_of(s: &[u8]) -> u64
+    ensures { λ r. ⌜ r ≡ lettersOf (now (s .entry)) ⌝ }
+{
+    if s.len() != 2 {
+        return 0;
+    }
+    pair(s[0], s[1])
+}
+
+// The calls of several numbers, each as its fields.
+fn write(address: u64, value: u64) -> Access
+    ensures { λ r. ⌜ r ≡ Write address value ⌝ }
+{
+    Access::Write { address, value }
+}
+
+fn lookup(address: u64, rights: u64) -> Access
+    ensures { λ r. ⌜ r ≡ Lookup address rights ⌝ }
+{
+    Access::Lookup { address, rights }
+}
+
+fn create(page: u64, pages: u64, password: u64) -> ObjectCall
+    ensures { λ r. ⌜ r ≡ Create page pages password ⌝ }
+{
+    ObjectCall::Create {
+        page,
+        pages,
+        password,
+    }
+}
+
+fn add_password(base: u64, password: u64, mode: u64) -> ObjectCall
+    ensures { λ r. ⌜ r ≡ AddPassword base password mode ⌝ }
+{
+    ObjectCall::AddPassword {
+        base,
+        password,
+        mode,
+    }
+}
+
+fn drop_password(base: u64, password: u64) -> ObjectCall
+    ensures { λ r. ⌜ r ≡ DropPassword base password ⌝ }
+{
+    ObjectCall::DropPassword { base, password }
+}
+
+fn pdx_call(entry: u64, choice: u64) -> DomainCall
+    ensures { λ r. ⌜ r ≡ PdxCall entry choice ⌝ }
+{
+    DomainCall::PdxCall { entry, choice }
+}
+
+fn insert(slot: u64, page: u64, password: u64) -> DomainCall
+    ensures { λ r. ⌜ r ≡ Insert slot (record { page = page; password = password }) ⌝ }
+{
+    DomainCall::Insert {
+        slot,
+        list: Presented { page, password },
+    }
+}
+
+// A call that has as many arguments as it takes.
+fn exactly(domain: u64, count: usize, n: usize, call: Call) -> Line
+    ensures { λ r. ⌜ r ≡ Grammar·exactly domain count n call ⌝ }
+{
+    if count == n {
+        return Line::Call { domain, call };
+    }
+    Line::Unreadable
+}
+
+// An access that has as many arguments as it takes.
+fn on_store(domain: u64, count: usize, n: usize, call: Access) -> Line
+    ensures { λ r. ⌜ r ≡ Grammar·exactly domain count n (OnStore call) ⌝ }
+{
+    exactly(domain, count, n, Call::OnStore(call))
+}
+
+// A call on objects that has as many arguments as it takes.
+fn on_object(domain: u64, count: usize, n: usize, call: ObjectCall) -> Line
+    ensures { λ r. ⌜ r ≡ Grammar·exactly domain count n (OnObject call) ⌝ }
+{
+    exactly(domain, count, n, Call::OnObject(call))
+}
+
+// A call on the caller's domain that has as many arguments as it takes.
+fn on_domain(domain: u64, count: usize, n: usize, call: DomainCall) -> Line
+    ensures { λ r. ⌜ r ≡ Grammar·exactly domain count n (OnDomain call) ⌝ }
+{
+    exactly(domain, count, n, Call::OnDomain(call))
+}
+
+// RG takes four arguments or more.
+fn at_least(domain: u64, count: usize, n: usize, call: ObjectCall) -> Line
+    ensures { λ r. ⌜ r ≡ atLeast domain count n (OnObject call) ⌝ }
+{
+    if n <= count {
+        return Line::Call {
+            domain,
+            call: Call::OnObject(call),
+        };
+    }
+    Line::Unreadable
+}
+
+// A boot takes four arguments.
+fn boot(domain: u64, count: usize, homes: Homes) -> Line
+    ensures { λ r. ⌜ r ≡ bootOf domain count homes ⌝ }
+{
+    if count == 4 {
+        return Line::Boot { domain, homes };
+    }
+    Line::Unreadable
+}
+
+// How many entries stand behind the four other arguments of RG.
+fn entry_count(n: usize) -> u64
+    ensures { λ r. ⌜ r ≡ n - 4 ⌝ }
+{
+    if n < 4 {
+        return 0;
+    }
+    (n - 4) as u64
+}
+
+// RG with n arguments: any number of entries, of which the first four are kept.
+fn register(n: usize, x: Eight) -> ObjectCall
+    ensures { λ r. ⌜ r ≡ registerOf n x ⌝ }
+{
+    ObjectCall::Register {
+        base: x.0,
+        password: x.1,
+        list: Presented {
+            page: x.2,
+            password: x.3,
+        },
+        entries: Entries {
+            count: entry_count(n),
+            first: x.4,
+            second: x.5,
+            third: x.6,
+            fourth: x.7,
+        },
+    }
+}
+
+// The calls on domains, with n arguments, the first eight in x.
+fn domain_call(domain: u64, letters: u64, n: usize, x: Eight) -> Line
+    ensures { λ r. ⌜ r ≡ domainCallOf domain letters n x ⌝ }
+{
+    match letters {
+        // IN
+        0x494e => return on_domain(domain, n, 3, insert(x.0, x.1, x.2)),
+        // RM
+        0x524d => return on_domain(domain, n, 1, DomainCall::Remove { slot: x.0 }),
+        // GT
+        0x4754 => return on_domain(domain, n, 0, DomainCall::Get),
+        // LO
+        0x4c4f => return on_domain(domain, n, 1, DomainCall::Lock { slot: x.0 }),
+        // CA
+        0x4341 => return on_domain(domain, n, 2, pdx_call(x.0, x.1)),
+        // RT
+        0x5254 => return on_domain(domain, n, 0, DomainCall::PdxReturn),
+        _ => return Line::Unreadable,
+    }
+}
+
+// The calls on objects, else those on domains.
+fn object_call(domain: u64, letters: u64, n: usize, x: Eight) -> Line
+    ensures { λ r. ⌜ r ≡ objectCallOf domain letters n x ⌝ }
+{
+    match letters {
+        // CR
+        0x4352 => return on_object(domain, n, 3, create(x.0, x.1, x.2)),
+        // DL
+        0x444c => return on_object(domain, n, 1, ObjectCall::Delete { base: x.0 }),
+        // AP
+        0x4150 => return on_object(domain, n, 3, add_password(x.0, x.1, x.2)),
+        // DP
+        0x4450 => return on_object(domain, n, 2, drop_password(x.0, x.1)),
+        // RG
+        0x5247 => return at_least(domain, n, 4, register(n, x)),
+        _ => return domain_call(domain, letters, n, x),
+    }
+}
+
+fn home_passwords(x: Eight) -> Homes
+    ensures { λ r. ⌜ r ≡ homesFrom x ⌝ }
+{
+    Homes {
+        first: x.0,
+        second: x.1,
+        third: x.2,
+        fourth: x.3,
+    }
+}
+
+// The call of these letters: a boot, an access, or one of the others.
+pub fn call_of(domain: u64, letters: u64, n: usize, x: Eight) -> Line
+    ensures { λ r. ⌜ r ≡ callOf domain letters n x ⌝ }
+{
+    match letters {
+        // BT
+        0x4254 => return boot(domain, n, home_passwords(x)),
+        // RD
+        0x5244 => return on_store(domain, n, 1, Access::Read { address: x.0 }),
+        // WR
+        0x5752 => return on_store(domain, n, 2, write(x.0, x.1)),
+        // EX
+        0x4558 => return on_store(domain, n, 1, Access::Execute { address: x.0 }),
+        // LK
+        0x4c4b => return on_store(domain, n, 2, lookup(x.0, x.1)),
+        _ => return object_call(domain, letters, n, x),
+    }
+}

@@ -1,0 +1,105 @@
+// What a test of soundness costs: two states tested in turn, 1,000 times in all, and how many tests passed. The state is
+// picked by number, so that no test can be done once for all. The instructions of a test are the total of
+// `valgrind --tool=callgrind --callgrind-out-file=/dev/null target/bin/sound_cost`, divided by 1,000.
+ghost use Prim.Native.Nat.{_<_, _≤_};
+use libc::STDOUT_FILENO;
+use soundness::sound;
+use state::Capability;
+use state::Domain;
+use state::Estate;
+use state::Object;
+use state::Registration;
+use state::State;
+use state::domains::save_domain;
+use state::estates::empty_state;
+use state::estates::with_domain;
+use state::estates::with_estate;
+use state::estates::with_object;
+use state::frames::insert_slot;
+use state::objects::add_password;
+use state::objects::new_object;
+use state::objects::with_registration;
+
+// An object with two passwords and a registration.
+fn registered(base: u8, word: u64) -> Object
+    requires { ⌜ base < 128 ⌝ }
+{
+    let g = Registration {
+        password: 3,
+        list: Capability {
+            page: base,
+            password: word,
+        },
+        count: 1,
+        entries: [64 * (base as u16), 0, 0, 0],
+    };
+    with_registration(add_password(new_object(base, 4, word), 2, 1), g)
+}
+
+// An estate with four objects.
+fn filled(e: Estate, base: u8, word: u64) -> Estate
+    requires { ⌜ base < 112 ⌝ }
+{
+    let mut f = with_object(e, 0, registered(base, word));
+    f = with_object(f, 1, registered(base + 4, word));
+    f = with_object(f, 2, new_object(base + 8, 2, word));
+    with_object(f, 3, new_object(base + 12, 4, word))
+}
+
+// A domain with three slots in use and one saved.
+fn slotted(m: Domain, page: u8, word: u64) -> Domain {
+    let c = Capability {
+        page: page,
+        password: word,
+    };
+    let one = insert_slot(m.active, 0, c);
+    let three = insert_slot(insert_slot(one, 1, c), 2, c);
+    let mut n = m;
+    n.active = one;
+    save_domain(n, three)
+}
+
+// A state with sixteen objects, whose passwords have a word.
+fn example(word: u64) -> State {
+    let mut s = empty_state();
+    let t = s.table;
+    let e = t.estates[0];
+    let m = s.domains[0];
+    s = with_estate(s, 0, filled(e, 0, word));
+    s = with_estate(s, 1, filled(e, 32, word));
+    s = with_estate(s, 2, filled(e, 64, word));
+    s = with_estate(s, 3, filled(e, 96, word));
+    s = with_domain(s, 0, slotted(m, 0, word));
+    s = with_domain(s, 1, slotted(m, 32, word));
+    s = with_domain(s, 2, slotted(m, 64, word));
+    with_domain(s, 3, slotted(m, 96, word))
+}
+
+// 1 for a test that passed.
+fn counted(passes: bool) -> u64
+    ensures { λ r. ⌜ r ≤ 1 ⌝ }
+{
+    if passes {
+        return 1;
+    }
+    0
+}
+
+// How many of the tests passed.
+fn passed() -> u64
+    ensures { λ r. ⌜ r ≤ 1000 ⌝ }
+{
+    let states = [example(7), example(8)];
+    let mut n = 0u64;
+    let mut i = 0;
+    while i < 1000 {
+        n += counted(sound(states[i % 2]));
+        i += 1;
+    }
+    n
+}
+
+fn main() {
+    io::print_decimal(STDOUT_FILENO, passed());
+    io::write_all(STDOUT_FILENO, b"\n");
+}

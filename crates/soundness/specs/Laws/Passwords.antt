@@ -1,0 +1,76 @@
+-- The passwords of an object that keeps its bounds.
+use Prim.Native.Nat.{ℕ, suc, _<_, _≤_}
+use mathlib.Core.Path.{_≡_, ap, sym, _∙_}
+use mathlib.Core.Bool.{true, not, _&&_, true≢false}
+use mathlib.Core.Logic.{_↔_, _⊎_, inl, inr, ⊎-elim}
+use native.Mathlib.Omega.{arith}
+use lib.Dec.{eqb}
+use lib.ListN.{getD}
+use borrow.Author.Tests.{eq-eqb}
+use Rattle.bounded.specs.Bools.{and-both, cond-ind, same-or-not}
+use Rattle.bounded.specs.Fill.{tabulate-at}
+use Rattle.bounded.specs.Place.{found-some}
+use Rattle.rights.specs.Modes.{legal}
+use Rattle.state.specs.Places.{passwordAt}
+use Rattle.state.specs.Lookup.{placeOf, ordinaryMode, modeOf, hasPassword}
+use Rattle.state.specs.Same.{SameObject}
+use Rattle.state.specs.Laws.Extent.{zero-not}
+use Rattle.state.specs.Laws.Passwords.{shows, Ordinary, ordinary-some, has-parts, ordinary-mode, mode-has}
+use Rattle.state.specs.Laws.Same.{mode-same, tests-same}
+use Rattle.soundness.specs.Sound.{distinct, allPasswords}
+use Rattle.soundness.specs.Laws.Distinct.{distinct-at}
+use Rattle.soundness.specs.Laws.ObjectParts.{ObjectBounds}
+use Rattle.state.specs.declared.Object.{Object}
+
+-- a legal mode is not 0
+pub legal-some : (m : ℕ) → legal m ≡ true → 0 < m
+legal-some ℕ.zero h = absurd (true≢false (sym h))
+legal-some (ℕ.suc m) h = omega arith
+
+-- in an object that keeps its bounds that mode is legal
+pub ordinary-legal : (o : Object) (word d : ℕ) → ObjectBounds o d → Ordinary o word → 0 < word → legal (ordinaryMode o word) ≡ true
+ordinary-legal o word d b r p = rw (ordinary-mode o word r p) (b .mode (placeOf o word) (r .within) (rw (r .there) p))
+
+-- a nonzero word does not stand at two places of an object's passwords, that of the registration first
+twice : (o : Object) (word i j : ℕ) → distinct (allPasswords o) ≡ true → 0 < word → i < j → j < 5 → getD (allPasswords o) i 0 ≡ word → getD (allPasswords o) j 0 ≡ word → ⊥
+twice o word i j h p l m a b = omega (arith, distinct-at (allPasswords o) i j l m h (a ∙ sym b))
+
+word-at : (o : Object) (k : ℕ) → k < 4 → getD (allPasswords o) (suc k) 0 ≡ passwordAt o k .word
+word-at o k l = tabulate-at 4 (λ k. passwordAt o k .word) k 0 l
+
+-- where no password stands twice, the place of an ordinary one is its only place
+pub ordinary-only : (o : Object) (word k : ℕ) → distinct (allPasswords o) ≡ true → 0 < word → k < 4 → passwordAt o k .word ≡ word → placeOf o word ≡ k
+unfolding placeOf
+ordinary-only o word k h p l e = go (same-or-not (placeOf o word) k)
+  where
+    r : Ordinary o word
+    r = ordinary-some o word k l e
+
+    low : placeOf o word ≤ k
+    low = found-some (shows o word) 4 k l (eq-eqb _ _ e) .1
+
+    go : (placeOf o word ≡ k) ⊎ (placeOf o word ≡ k → ⊥) → placeOf o word ≡ k
+    go (inl w) = w
+    go (inr ne) =
+        absurd (twice o word (suc (placeOf o word)) (suc k) h p (omega (arith, low)) (omega arith) (word-at o _ (r .within) ∙ r .there) (word-at o k l ∙ e))
+
+-- and it is not that of the registration
+pub ordinary-registration : (o : Object) (word : ℕ) → distinct (allPasswords o) ≡ true → 0 < word → Ordinary o word → o .registration .password ≡ word → ⊥
+ordinary-registration o word h p r e = twice o word 0 (suc (placeOf o word)) h p (omega arith) (omega arith) e (word-at o _ (r .within) ∙ r .there)
+
+-- in an object that keeps its bounds a word is a password exactly where it has a mode
+pub has-exactly : (o : Object) (word d : ℕ) → ObjectBounds o d → hasPassword o word ≡ true ↔ 0 < modeOf o word
+unfolding modeOf
+has-exactly o word d b = (λ h. mode (has-parts o word h), mode-has o word)
+  where
+    mode : (0 < word) × ((o .registration .password ≡ word) ⊎ Ordinary o word) → 0 < modeOf o word
+    mode r =
+        cond-ind (λ n. 0 < n) (not (eqb word 0) && eqb (o .registration .password) word) 16 (ordinaryMode o word) (λ e. omega arith)
+        (λ e. ⊎-elim (λ g. absurd (true≢false (sym (and-both (ap not (zero-not word (r .0))) (eq-eqb _ _ g)) ∙ e)))
+        (λ q. legal-some _ (ordinary-legal o word d b q (r .0))) (r .1))
+
+-- the same object has the same passwords, where both keep their bounds
+pub has-same : {o o′ : Object} (word d d′ : ℕ) → ObjectBounds o d → ObjectBounds o′ d′ → SameObject o o′ → hasPassword o word ≡ hasPassword o′ word
+has-same {o} {o′} word d d′ b b′ m =
+    tests-same _ _ (λ h. has-exactly o′ word d′ b′ .1 (rw (mode-same m word) at (has-exactly o word d b .0 h)))
+    (λ h. has-exactly o word d b .1 (rw (mode-same m word) (has-exactly o′ word d′ b′ .0 h)))

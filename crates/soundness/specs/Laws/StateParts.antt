@@ -1,0 +1,82 @@
+-- The soundness of an estate and of the whole state taken apart and put together.
+use Prim.Native.Nat.{ℕ, _<_}
+use mathlib.Core.Path.{_≡_, refl}
+use mathlib.Core.Bool.{Bool, true, false}
+use native.Mathlib.Omega.{arith}
+use lib.Dec.{ltb}
+use lib.ListN.{length}
+use borrow.Author.Tests.{ltb-true, ltb-false, eqb-true, eq-eqb}
+use Rattle.bounded.specs.Bools.{and-left, and-right, and-both, guarded, guard}
+use Rattle.bounded.specs.Every.{below-at, below-all}
+use Rattle.state.specs.Places.{objectAt, estateAt, domainAt}
+use Rattle.state.specs.Extent.{apart}
+use Rattle.state.specs.Laws.Extent.{apart-sym}
+use Rattle.soundness.specs.Sound.{objectOk, apartAt, apartFrom, estateOk, domainOk, soundAt, sound}
+use Rattle.soundness.specs.Laws.Tests.{all3}
+use Rattle.state.specs.declared.Estate.{Estate}
+use Rattle.state.specs.declared.State.{State}
+
+-- an estate
+pub record EstateSound (e : Estate) (d : ℕ) : Type 0 where
+  pub long : length (e .objects) ≡ 8
+  pub object : (k : ℕ) → k < 8 → objectOk (objectAt e k) d ≡ true
+  pub clear : (i j : ℕ) → i < 8 → j < i → apart (objectAt e j) (objectAt e i) ≡ true
+
+-- an estate that passes the test has these bounds
+pub estate-parts : (e : Estate) (d : ℕ) → estateOk e d ≡ true → EstateSound e d
+unfolding estateOk apartFrom apartAt
+estate-parts e d h =
+    let (long, objects, clear) = all3 _ _ _ h in
+    record {
+      long = eqb-true _ 8 long;
+      object = below-at 8 (λ k. objectOk (objectAt e k) d) objects;
+      clear = λ i j l m. guarded i j _ (below-at 8 (apartAt e i) (below-at 8 (apartFrom e) clear i l) j (omega arith)) m;
+    }
+
+-- an estate with these bounds passes the test
+pub parts-estate : (e : Estate) (d : ℕ) → EstateSound e d → estateOk e d ≡ true
+unfolding estateOk apartFrom apartAt
+parts-estate e d h =
+    and-both (and-both (eq-eqb _ 8 (h .long)) (below-all 8 (λ k. objectOk (objectAt e k) d) (h .object)))
+    (below-all 8 (apartFrom e) (λ i l. below-all 8 (apartAt e i) (λ j m. guard i j _ (h .clear i j l))))
+
+-- the whole state
+pub record StateSound (s : State) : Type 0 where
+  pub long-estates : length (s .table .estates) ≡ 4
+  pub long-domains : length (s .domains) ≡ 4
+  pub estate : (d : ℕ) → d < 4 → estateOk (estateAt (s .table) d) d ≡ true
+  pub domain : (d : ℕ) → d < 4 → domainOk (domainAt s d) ≡ true
+
+-- a sound state has these bounds
+pub state-parts : (s : State) → sound s ≡ true → StateSound s
+unfolding sound soundAt
+state-parts s h =
+    let (estates, domains, each) = all3 _ _ _ h in
+    record {
+      long-estates = eqb-true _ 4 estates;
+      long-domains = eqb-true _ 4 domains;
+      estate = λ d l. and-left _ _ (below-at 4 (soundAt s) each d l);
+      domain = λ d l. and-right (estateOk (estateAt (s .table) d) d) _ (below-at 4 (soundAt s) each d l);
+    }
+
+-- a state with these bounds is sound
+pub parts-state : (s : State) → StateSound s → sound s ≡ true
+unfolding sound soundAt
+parts-state s h =
+    and-both (and-both (eq-eqb _ 4 (h .long-estates)) (eq-eqb _ 4 (h .long-domains)))
+    (below-all 4 (soundAt s) (λ d l. and-both (h .estate d l) (h .domain d l)))
+
+-- the object at a place of a sound state is sound
+pub object-sound : (s : State) (d k : ℕ) → sound s ≡ true → d < 4 → k < 8 → objectOk (objectAt (estateAt (s .table) d) k) d ≡ true
+object-sound s d k h l m = estate-parts _ d (state-parts s h .estate d l) .object k m
+
+-- the objects at two places of a sound estate are apart
+pub estate-apart : (e : Estate) (d i j : ℕ) → estateOk e d ≡ true → i < 8 → j < 8 → (i ≡ j → ⊥) → apart (objectAt e i) (objectAt e j) ≡ true
+estate-apart e d i j h l m ne = go (ltb i j) refl
+  where
+    q : EstateSound e d
+    q = estate-parts e d h
+
+    go : (b : Bool) → ltb i j ≡ b → apart (objectAt e i) (objectAt e j) ≡ true
+    go true t = q .clear j i m (ltb-true i j t)
+    go false t = apart-sym _ _ (q .clear i j l (omega (arith, ltb-false i j t)))

@@ -1,0 +1,92 @@
+-- Soundness: document 01, "Ground and bounds", items 1 to 5. What stands in a free or unused place is not looked at; the
+-- lengths of the arrays are part of the definition, and hold of every value that code can hand over.
+use Prim.Native.Nat.{ℕ, _/_}
+use mathlib.Core.Bool.{Bool, true, false, not, _&&_, _||_}
+use mathlib.Core.List.{List, [], _∷_}
+use lib.Dec.{leb, ltb, eqb}
+use lib.ListN.{length}
+use Rattle.bounded.specs.Every.{below}
+use Rattle.bounded.specs.Fill.{tabulate}
+use Rattle.rights.specs.Modes.{legal}
+use Rattle.state.specs.Places.{slotAt, savedAt, passwordAt, entryAt, objectAt, estateAt, domainAt}
+use Rattle.state.specs.Extent.{free, covers, liesIn, apart}
+use Rattle.state.specs.declared.Object.{Object}
+use Rattle.state.specs.declared.Estate.{Estate}
+use Rattle.state.specs.declared.Frame.{Frame}
+use Rattle.state.specs.declared.Domain.{Domain}
+use Rattle.state.specs.declared.State.{State}
+
+-- item 4: an ordinary password has a legal mode; a place with the word 0 is free
+unfoldable pub passwordOk : Object → ℕ → Bool
+passwordOk o k = eqb (passwordAt o k .word) 0 || legal (passwordAt o k .mode)
+
+-- the number is not in the list; no nonzero number stands twice in it
+unfoldable pub absent : ℕ → List ℕ → Bool
+absent w [] = true
+absent w (x ∷ xs) = not (eqb x w) && absent w xs
+
+unfoldable pub distinct : List ℕ → Bool
+distinct [] = true
+distinct (x ∷ xs) = (eqb x 0 || absent x xs) && distinct xs
+
+-- all the passwords of an object, the registration's first; 0 for a free place
+abbrev pub allPasswords : Object → List ℕ
+allPasswords o = o .registration .password ∷ tabulate 4 (λ k. passwordAt o k .word)
+
+-- item 4: an entry in use is an address of the object
+unfoldable pub entryOk : Object → ℕ → Bool
+entryOk o k = leb (o .registration .count) k || covers o (entryAt o k / 64)
+
+-- item 4: a registration, where there is one, has a Clist's page below 128 and 1 to 4 entries, all in the object
+unfoldable pub registrationOk : Object → Bool
+registrationOk o =
+    eqb (o .registration .password) 0
+    || (ltb (o .registration .list .page) 128 && ltb 0 (o .registration .count) && leb (o .registration .count) 4 && below 4 (entryOk o))
+
+-- items 2 to 4: a standing object lies in its estate, and its passwords, the registration's too, are all different
+unfoldable pub objectBounds : Object → ℕ → Bool
+objectBounds o d = liesIn o d && below 4 (passwordOk o) && distinct (allPasswords o) && registrationOk o
+
+-- a place for an object: free, or with an object that keeps its bounds
+unfoldable pub objectOk : Object → ℕ → Bool
+objectOk o d = eqb (length (o .passwords)) 4 && eqb (length (o .registration .entries)) 4 && (free o || objectBounds o d)
+
+-- the object at place i is apart from that at place j, where j comes before i
+unfoldable pub apartAt : Estate → ℕ → ℕ → Bool
+apartAt e i j = leb i j || apart (objectAt e j) (objectAt e i)
+
+-- item 3: it is apart from all before it
+unfoldable pub apartFrom : Estate → ℕ → Bool
+apartFrom e i = below 8 (apartAt e i)
+
+-- item 2: an estate is eight places for objects
+unfoldable pub estateOk : Estate → ℕ → Bool
+estateOk e d = eqb (length (e .objects)) 8 && below 8 (λ k. objectOk (objectAt e k) d) && below 8 (apartFrom e)
+
+-- item 5: a slot in use names a page below 128
+unfoldable pub slotOk : Frame → ℕ → Bool
+slotOk f k = leb (f .count) k || ltb (slotAt f k .page) 128
+
+-- item 5: at most 8 slots, and no more locked than there are
+unfoldable pub frameBounds : Frame → Bool
+frameBounds f = leb (f .count) 8 && leb (f .locked) (f .count) && below 8 (slotOk f)
+
+-- a frame that is unused, or keeps its bounds
+unfoldable pub frameOk : Bool → Frame → Bool
+frameOk unused f = eqb (length (f .slots)) 8 && (unused || frameBounds f)
+
+-- item 5: a saved domain in use keeps the bounds of a frame
+unfoldable pub savedOk : Domain → ℕ → Bool
+savedOk m k = frameOk (leb (m .depth) k) (savedAt m k)
+
+-- item 5: the active frame, and at most 4 saved ones
+unfoldable pub domainOk : Domain → Bool
+domainOk m = eqb (length (m .saved)) 4 && frameOk false (m .active) && leb (m .depth) 4 && below 4 (savedOk m)
+
+-- a domain with its estate
+unfoldable pub soundAt : State → ℕ → Bool
+soundAt s d = estateOk (estateAt (s .table) d) d && domainOk (domainAt s d)
+
+-- item 1: there are four domains
+unfoldable pub sound : State → Bool
+sound s = eqb (length (s .table .estates)) 4 && eqb (length (s .domains)) 4 && below 4 (soundAt s)

@@ -1,0 +1,10 @@
+use borrow.Author.Needs.{needs}
+use Rattle.stream.specs.Kinds.{unread-kind}
+use Rattle.stream.proofs.kinds.kind_of.Statement.{statement}
+use Rattle.stream.proofs.kinds.kind_of.Tie as tie
+
+pub kind-of-spec : {M : Type 1} → statement M
+kind-of-spec =
+    tie.close
+    (tie.spec (λ c. search needs) (λ c. unread-kind _ (c .enum-told .given .1)) (λ c. search needs) (λ c. tt) (λ c. search needs) (λ c κs. search needs)
+    (λ c. rw (c .before .before .reading .given .1) (c .call-kind .ensures)))
