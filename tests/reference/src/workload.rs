@@ -1,5 +1,5 @@
-//! Lines for benchmarks: mostly granted RD, WR, LK, CA and RT over Clists of
-//! 10 to 60 pairs.
+//! Lines for benchmarks, mostly granted, over Clists of 10 to 60 pairs: two
+//! loads behind the same stage.
 
 use crate::generate::Line;
 use crate::monitor::*;
@@ -123,15 +123,24 @@ fn pair(d: u64, place: u64) -> (u64, u64) {
     }
 }
 
-/// Write a workload of so many lines, the stage included.
-pub fn write<O: Write>(lines: u64, output: &mut O) -> io::Result<()> {
-    let mut random = Random::new(1);
-    let mut depth = [0u64; DOMAINS];
+/// A load's shares in a hundred lines: RD, WR, LK, CA and RT, EX, other calls,
+/// and RD that is refused.
+pub type Shares = [u64; 7];
+
+/// RD, WR and LK, and a fifth of the lines CA and RT.
+pub const WORKLOAD: Shares = [30, 25, 20, 22, 0, 0, 3];
+
+/// A tenth of the lines CA and RT, and some of every call that keeps the stage.
+pub const MIXED: Shares = [33, 26, 23, 10, 4, 1, 3];
+
+/// Write a load of so many lines, the stage included.
+pub fn write<O: Write>(shares: &Shares, lines: u64, output: &mut O) -> io::Result<()> {
+    let mut steps = Steps::new();
     let stage = stage();
     for i in 0..lines {
         let line = match stage.get(i as usize) {
             Some(line) => line.clone(),
-            None => step(&mut random, &mut depth),
+            None => steps.step(shares),
         };
         output.write_all(&line.bytes())?;
         output.write_all(b"\n")?;
@@ -139,40 +148,92 @@ pub fn write<O: Write>(lines: u64, output: &mut O) -> io::Result<()> {
     output.flush()
 }
 
-fn step(random: &mut Random, depth: &mut [u64; DOMAINS]) -> Line {
-    let d = random.below(4);
-    let at = |page: u64, random: &mut Random| base(d, page) * PAGE_WORDS + random.below(PAGE_WORDS);
-    let page = random.pick(&DATA);
-    match random.below(100) {
-        0..=29 => Line::new(d, "RD", &[at(page, random)]),
-        30..=54 => {
-            let address = at(page, random);
-            Line::new(d, "WR", &[address, random.word()])
+/// What the lines behind the stage depend on.
+struct Steps {
+    random: Random,
+    /// How many calls deep each domain is.
+    depth: [u64; DOMAINS],
+    /// How many of the other calls each domain has made.
+    others: [u64; DOMAINS],
+    /// The line that must come next.
+    next: Option<Line>,
+}
+
+impl Steps {
+    fn new() -> Self {
+        Steps {
+            random: Random::new(1),
+            depth: [0; DOMAINS],
+            others: [0; DOMAINS],
+            next: None,
         }
-        55..=74 => {
-            let rights = random.pick(&[1, 2, 3, 4, 8, 15]);
-            Line::new(d, "LK", &[at(page, random), rights])
+    }
+
+    fn step(&mut self, shares: &Shares) -> Line {
+        if let Some(line) = self.next.take() {
+            return line;
         }
-        75..=96 => {
-            // Up to three calls deep, and back.
-            let deep = &mut depth[d as usize];
-            if *deep == 3 || (*deep > 0 && random.percent(50)) {
-                *deep -= 1;
-                Line::new(d, "RT", &[])
-            } else {
-                *deep += 1;
-                let e = if random.percent(50) { d } else { (d + 1) % 4 };
-                let entry = entry(e) + random.pick(&[0, 8]);
-                // Its own Clist alone still grants what the domain asks for.
-                let choice = u64::from(e == d && random.percent(30));
-                Line::new(d, "CA", &[entry, choice])
+        let d = self.random.below(4);
+        let page = base(d, self.random.pick(&DATA));
+        match self.random.weighted(shares) {
+            0 => Line::new(d, "RD", &[self.word_of(page)]),
+            1 => {
+                let address = self.word_of(page);
+                Line::new(d, "WR", &[address, self.random.word()])
+            }
+            2 => {
+                let rights = self.random.pick(&[1, 2, 3, 4, 8, 15]);
+                Line::new(d, "LK", &[self.word_of(page), rights])
+            }
+            3 => self.call(d),
+            4 => Line::new(d, "EX", &[self.word_of(page)]),
+            5 => self.other(d),
+            // Refused: pages that are no object's, or another domain's.
+            _ => {
+                let page = self.random.pick(&[30, 31, 64 + CLIST]);
+                let address = base(d, page) * PAGE_WORDS % WORDS;
+                Line::new(d, "RD", &[address])
             }
         }
-        // Refused: pages that are no object's, or another domain's.
-        _ => {
-            let page = random.pick(&[30, 31, 64 + CLIST]);
-            let address = base(d, page) * PAGE_WORDS % WORDS;
-            Line::new(d, "RD", &[address])
+    }
+
+    fn word_of(&mut self, page: u64) -> u64 {
+        page * PAGE_WORDS + self.random.below(PAGE_WORDS)
+    }
+
+    /// CA up to three calls deep, and RT.
+    fn call(&mut self, d: u64) -> Line {
+        let deep = &mut self.depth[d as usize];
+        if *deep == 3 || (*deep > 0 && self.random.percent(50)) {
+            *deep -= 1;
+            return Line::new(d, "RT", &[]);
+        }
+        *deep += 1;
+        let own = self.random.percent(50);
+        let e = if own { d } else { (d + 1) % 4 };
+        let entry = entry(e) + self.random.pick(&[0, 8]);
+        // Its own Clist alone still grants what the domain asks for.
+        let choice = u64::from(own && self.random.percent(30));
+        Line::new(d, "CA", &[entry, choice])
+    }
+
+    /// The other calls by turns, so that each change is undone: an object that
+    /// had died, for which the Clist still has a pair, a password, a slot.
+    fn other(&mut self, d: u64) -> Line {
+        let made = &mut self.others[d as usize];
+        *made += 1;
+        let (dead, old) = (base(d, 20 + DATA[1]), data_password(d, DATA[1]));
+        let (kept, added) = (base(d, DATA[0]), 500 + d);
+        match *made % 6 {
+            1 => Line::new(d, "CR", &[dead, 1, old]),
+            2 => Line::new(d, "DL", &[dead]),
+            3 => Line::new(d, "AP", &[kept, added, R]),
+            4 => Line::new(d, "DP", &[kept, added]),
+            5 => {
+                self.next = Some(Line::new(d, "RM", &[0]));
+                Line::new(d, "IN", &[0, base(d, 0), home(d)])
+            }
+            _ => Line::new(d, "GT", &[]),
         }
     }
 }

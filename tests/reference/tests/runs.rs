@@ -218,7 +218,7 @@ fn the_same_seed_gives_the_same_lines() {
 #[test]
 fn workload_is_mostly_granted() {
     let mut input = Vec::new();
-    refmonitor::workload::write(20_000, &mut input).unwrap();
+    refmonitor::workload::write(&refmonitor::workload::WORKLOAD, 20_000, &mut input).unwrap();
     let output = String::from_utf8(run_bytes(&input)).unwrap();
     let lines = output.lines().skip(1);
     let done = lines.filter(|l| l.split(',').nth(1) == Some("0")).count();
@@ -233,7 +233,7 @@ fn workload_is_mostly_granted() {
 #[test]
 fn workload_searches_clists_of_10_to_60_pairs() {
     let mut input = Vec::new();
-    refmonitor::workload::write(20_000, &mut input).unwrap();
+    refmonitor::workload::write(&refmonitor::workload::WORKLOAD, 20_000, &mut input).unwrap();
     let stage = refmonitor::workload::stage().len();
     let mut monitor = Monitor::new();
     let (mut judged, mut counts) = (0, std::collections::BTreeMap::new());

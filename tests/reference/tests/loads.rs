@@ -1,0 +1,70 @@
+//! The loads of the benchmark have the shares that they say.
+
+use refmonitor::coverage::letters_of;
+use refmonitor::lines::{run_bytes, LETTERS};
+use refmonitor::workload::{self, Shares, MIXED, WORKLOAD};
+use std::collections::BTreeMap;
+
+const LINES: u64 = 50_000;
+
+fn load(shares: &Shares) -> Vec<u8> {
+    let mut input = Vec::new();
+    workload::write(shares, LINES, &mut input).unwrap();
+    input
+}
+
+/// The lines behind the stage by letters, in percent.
+fn percent(input: &[u8]) -> BTreeMap<&'static str, f64> {
+    let stage = workload::stage().len();
+    let lines: Vec<&[u8]> = input.split(|&b| b == b'\n').skip(stage).collect();
+    let share = |letters: &'static str| {
+        let count = lines.iter().filter(|l| letters_of(l) == letters).count();
+        (letters, 100.0 * count as f64 / lines.len() as f64)
+    };
+    LETTERS.map(|(letters, _)| share(letters)).into()
+}
+
+fn about(share: f64, stated: f64) {
+    assert!((share - stated).abs() < 1.0, "{share}% and not {stated}%");
+}
+
+#[test]
+fn the_workload_has_its_shares() {
+    let part = percent(&load(&WORKLOAD));
+    about(part["RD"], 33.0);
+    about(part["WR"], 25.0);
+    about(part["LK"], 20.0);
+    about(part["CA"] + part["RT"], 22.0);
+}
+
+#[test]
+fn the_mixed_load_has_its_shares() {
+    let part = percent(&load(&MIXED));
+    about(part["RD"], 36.0);
+    about(part["WR"], 26.0);
+    about(part["LK"], 23.0);
+    about(part["CA"] + part["RT"], 10.0);
+    about(part["EX"], 4.0);
+    for letters in ["CR", "DL", "AP", "DP", "IN", "RM", "GT"] {
+        assert!(part[letters] > 0.1, "{letters} {}%", part[letters]);
+    }
+}
+
+/// Only the reads that are meant to be refused are: those of no object's page
+/// or another domain's.
+#[test]
+fn all_but_some_reads_are_granted() {
+    for shares in [WORKLOAD, MIXED] {
+        let input = load(&shares);
+        let output = run_bytes(&input);
+        let answers = output.split(|&b| b == b'\n').skip(1);
+        let mut refused = 0;
+        for (line, answer) in input.split(|&b| b == b'\n').zip(answers) {
+            if !line.is_empty() && answer.split(|&b| b == b',').nth(1) != Some(b"0") {
+                assert_eq!(letters_of(line), "RD");
+                refused += 1;
+            }
+        }
+        about(100.0 * f64::from(refused) / LINES as f64, 3.0);
+    }
+}
