@@ -5,14 +5,14 @@ use lib.Dec.{ltb}
 use Rattle.judge.specs.declared.Judgement.{Judgement}
 use Rattle.judge.specs.declared.Judgement.the-variants.{Granted, Refused}
 use Rattle.calls.specs.declared.Refusal.the-variants.{OutOfRange, NotGranted}
-use Rattle.access_calls.specs.declared.Search.{Search}
-use Rattle.access_calls.specs.declared.Search.the-variants as search
+use Rattle.access_calls.specs.declared.Grant.{Grant}
+use Rattle.access_calls.specs.declared.Grant.the-variants as grant
 
 -- what a judgement gives
-abbrev pub searchOf : Judgement → Search
-searchOf (Granted pair) = search.Granted pair
-searchOf Refused = search.Refused NotGranted
+abbrev pub grantOf : Judgement → Grant
+grantOf (Granted pair) = grant.Granted pair
+grantOf Refused = grant.Refused NotGranted
 
 -- the same where the address lies in a store of n words
-abbrev pub accessedBy : ℕ → ℕ → Judgement → Search
-accessedBy n a j = cond (ltb a n) (searchOf j) (search.Refused OutOfRange)
+abbrev pub accessedBy : ℕ → ℕ → Judgement → Grant
+accessedBy n a j = cond (ltb a n) (grantOf j) (grant.Refused OutOfRange)

@@ -1,4 +1,4 @@
--- What an access answers, for any rights: granted or refused, from what its search gives.
+-- What an access answers, for any rights: granted or refused, from what checks 5 and 7 give.
 use Prim.Native.Nat.{ℕ, _<_}
 use mathlib.Core.Path.{_≡_, refl, _∙_}
 use mathlib.Core.Bool.{Bool, true, false, cond, _&&_}
@@ -28,15 +28,15 @@ use Rattle.calls.specs.declared.Answer.{Answer}
 use Rattle.calls.specs.declared.Answer.the-variants.{Done, Refused as Answer·Refused}
 use Rattle.calls.specs.declared.Refusal.{Refusal}
 use Rattle.calls.specs.declared.Refusal.the-variants.{OutOfRange, NotGranted}
-use Rattle.access_calls.specs.Accessed.{searchOf, accessedBy}
-use Rattle.access_calls.specs.declared.Search.{Search}
-use Rattle.access_calls.specs.declared.Search.the-variants as found
+use Rattle.access_calls.specs.Accessed.{grantOf, accessedBy}
+use Rattle.access_calls.specs.declared.Grant.{Grant}
+use Rattle.access_calls.specs.declared.Grant.the-variants as grant
 
--- a granted search lies in the store, and its judgement is the grant
-granted-by : (n a : ℕ) (j : Judgement) {pair : ℕ} → accessedBy n a j ≡ found.Granted pair → (a < n) × (j ≡ Granted pair)
+-- a granted address lies in the store, and its judgement is the grant
+granted-by : (n a : ℕ) (j : Judgement) {pair : ℕ} → accessedBy n a j ≡ grant.Granted pair → (a < n) × (j ≡ Granted pair)
 granted-by n a j {pair} h = go (ltb a n) refl j h
   where
-    go : (b : Bool) → ltb a n ≡ b → (j : Judgement) → cond b (searchOf j) (found.Refused OutOfRange) ≡ found.Granted pair → (a < n) × (j ≡ Granted pair)
+    go : (b : Bool) → ltb a n ≡ b → (j : Judgement) → cond b (grantOf j) (grant.Refused OutOfRange) ≡ grant.Granted pair → (a < n) × (j ≡ Granted pair)
     go true e (Granted p) k = (ltb-true a n e, cc)
     go true e Refused k = let z : _≡_ {A = ℕ} 0 1 = cc in absurd (omega arith)
     go false e j k = let z : _≡_ {A = ℕ} 0 1 = cc in absurd (omega arith)
@@ -63,13 +63,13 @@ rights-out a r k = go (ltb a 8192) (ltb 0 r) (ltb r 32) k
 module _ (t : Table) (f : Frame) (words : List ℕ) (c : Access) (a r : ℕ) (range : inRange (OnStore c) ≡ ltb a 8192)
     (free : (g : Frame) → unlocked (OnStore c) g ≡ true)
     (asks : (d : ℕ) (w : World) → late d (OnStore c) (view judged w d (OnStore c)) ≡ check NotGranted (isSome (search judged w (domainAt (w .state) d .active) (rights (Address a) r))) ∷ []) where
-  -- refused where the search is
-  access-refused : {why : Refusal} → accessedBy (length words) a (judged t words f (Address a) r) ≡ found.Refused why
+  -- refused where checks 5 and 7 refuse it
+  access-refused : {why : Refusal} → accessedBy (length words) a (judged t words f (Address a) r) ≡ grant.Refused why
       → Answers t f words c (Answer·Refused why) words
   access-refused {why} h s d e p q = go (ltb a (length words)) refl (judged t words f (Address a) r) refl h
     where
       go : (b : Bool) → ltb a (length words) ≡ b → (j : Judgement) → judged t words f (Address a) r ≡ j
-          → cond b (searchOf j) (found.Refused OutOfRange) ≡ found.Refused why → result (answeredWith s (Answer·Refused why)) words ≡ unchecked (world s words) d (OnStore c)
+          → cond b (grantOf j) (grant.Refused OutOfRange) ≡ grant.Refused why → result (answeredWith s (Answer·Refused why)) words ≡ unchecked (world s words) d (OnStore c)
       go true i (Granted pair) g k = let z : _≡_ {A = ℕ} 0 1 = cc in absurd (omega arith)
       go true i Refused g k =
           let w : why ≡ NotGranted = cc in
@@ -77,7 +77,7 @@ module _ (t : Table) (f : Frame) (words : List ℕ) (c : Access) (a r : ℕ) (ra
       go false i j g k = let w : why ≡ OutOfRange = cc in by-range s words d (OnStore c) e (range ∙ rw (← e .long) i) (rw w)
 
   -- done where it is granted
-  access-granted : {pair : ℕ} {x : Answer} {words′ : List ℕ} → accessedBy (length words) a (judged t words f (Address a) r) ≡ found.Granted pair
+  access-granted : {pair : ℕ} {x : Answer} {words′ : List ℕ} → accessedBy (length words) a (judged t words f (Address a) r) ≡ grant.Granted pair
       → ((s : State) (d : ℕ) → judged (s .table) words (domainAt s d .active) (Address a) r ≡ Granted pair
       → result (answeredWith s x) words′ ≡ done (world s words) d (OnStore c) (view judged (world s words) d (OnStore c)))
       → Answers t f words c x words′
@@ -120,16 +120,16 @@ leaves (Execute a) words = words
 leaves (Lookup a r) words = words
 
 module _ (t : Table) (f : Frame) (words : List ℕ) where
-  -- the search of an access
-  abbrev pub searched : Access → Search
-  searched c = accessedBy (length words) (addressOf c) (judged t words f (Address (addressOf c)) (rightsOf c))
+  -- what checks 5 and 7 give an access
+  abbrev pub grantTo : Access → Grant
+  grantTo c = accessedBy (length words) (addressOf c) (judged t words f (Address (addressOf c)) (rightsOf c))
 
   -- a granted one lies in the store
-  pub within : (c : Access) {pair : ℕ} → searched c ≡ found.Granted pair → addressOf c < length words
+  pub within : (c : Access) {pair : ℕ} → grantTo c ≡ grant.Granted pair → addressOf c < length words
   within c h = granted-by (length words) (addressOf c) (judged t words f (Address (addressOf c)) (rightsOf c)) h .0
 
-  -- AN ACCESS IS REFUSED AS ITS SEARCH IS
-  pub refused : (c : Access) {why : Refusal} → rightsOk c ≡ true → searched c ≡ found.Refused why → Answers t f words c (Answer·Refused why) words
+  -- AN ACCESS IS REFUSED AS CHECKS 5 AND 7 REFUSE IT
+  pub refused : (c : Access) {why : Refusal} → rightsOk c ≡ true → grantTo c ≡ grant.Refused why → Answers t f words c (Answer·Refused why) words
   unfolding inRange unlocked late view
   refused (Read a) k h = access-refused t f words (Read a) a read refl (λ g. refl) (λ d w. refl) h
   refused (Write a x) k h = access-refused t f words (Write a x) a write refl (λ g. refl) (λ d w. refl) h
@@ -137,7 +137,7 @@ module _ (t : Table) (f : Frame) (words : List ℕ) where
   refused (Lookup a r) k h = access-refused t f words (Lookup a r) a r (rights-range a r k) (λ g. refl) (λ d w. refl) h
 
   -- AND DONE WHERE IT IS GRANTED
-  pub granted : (c : Access) {pair : ℕ} → rightsOk c ≡ true → searched c ≡ found.Granted pair → Answers t f words c (Done (gives c words pair)) (leaves c words)
+  pub granted : (c : Access) {pair : ℕ} → rightsOk c ≡ true → grantTo c ≡ grant.Granted pair → Answers t f words c (Done (gives c words pair)) (leaves c words)
   unfolding inRange unlocked late view changes rule
   granted (Read a) k h = access-granted t f words (Read a) a read refl (λ g. refl) (λ d w. refl) h (λ s d u. rw u)
   granted (Write a x) k h = access-granted t f words (Write a x) a write refl (λ g. refl) (λ d w. refl) h (λ s d u. refl)

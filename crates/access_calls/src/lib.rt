@@ -17,22 +17,22 @@ ghost use Rattle.calls.specs.declared.Access.the-variants.{Read, Write, Execute
 ghost use Rattle.access_calls.specs.Accessed.{accessedBy};
 
 // Whether rights at an address are granted: the address of the granting pair, or why not.
-enum Search {
+enum Grant {
     Granted(u64),
     Refused(Refusal),
 }
 
 // An access for any rights: the address lies in the store (check 5), and the frame's Clists grant them (check 7).
-fn accessed(t: Table, store: &[u64], f: Frame, address: u64, wanted: Rights) -> Search
+fn accessed(t: Table, store: &[u64], f: Frame, address: u64, wanted: Rights) -> Grant
     ensures { λ r. ⌜ r ≡ accessedBy (length (now (store .entry))) address (judged t (now (store .entry)) f (Address address) (wanted .bits)) ⌝ }
 {
     if store.len() as u64 <= address {
-        return Search::Refused(Refusal::OutOfRange);
+        return Grant::Refused(Refusal::OutOfRange);
     }
     let Judgement::Granted(pair) = judge(t, store, f, Target::Address(address), wanted) else {
-        return Search::Refused(Refusal::NotGranted);
+        return Grant::Refused(Refusal::NotGranted);
     };
-    Search::Granted(pair)
+    Grant::Granted(pair)
 }
 
 // RD: the word at an address.
@@ -41,8 +41,8 @@ pub fn read(t: Table, store: &[u64], f: Frame, address: u64) -> Answer
 {
     let found = accessed(t, store, f, address, Rights::READ);
     match found {
-        Search::Granted(pair) => return Answer::Done(store[address as usize]),
-        Search::Refused(why) => return Answer::Refused(why),
+        Grant::Granted(pair) => return Answer::Done(store[address as usize]),
+        Grant::Refused(why) => return Answer::Refused(why),
     }
 }
 
@@ -52,11 +52,11 @@ pub fn write(t: Table, store: &mut [u64], f: Frame, address: u64, value: u64) ->
 {
     let found = accessed(t, store, f, address, Rights::WRITE);
     match found {
-        Search::Granted(pair) => {
+        Grant::Granted(pair) => {
             store[address as usize] = value;
             return Answer::Done(0);
         }
-        Search::Refused(why) => return Answer::Refused(why),
+        Grant::Refused(why) => return Answer::Refused(why),
     }
 }
 
@@ -66,8 +66,8 @@ pub fn execute(t: Table, store: &[u64], f: Frame, address: u64) -> Answer
 {
     let found = accessed(t, store, f, address, Rights::EXECUTE);
     match found {
-        Search::Granted(pair) => return Answer::Done(address),
-        Search::Refused(why) => return Answer::Refused(why),
+        Grant::Granted(pair) => return Answer::Done(address),
+        Grant::Refused(why) => return Answer::Refused(why),
     }
 }
 
@@ -84,8 +84,8 @@ pub fn apd_lookup(t: Table, store: &[u64], f: Frame, address: u64, rights: u64) 
     let wanted = Rights { bits: rights as u8 };
     let found = accessed(t, store, f, address, wanted);
     match found {
-        Search::Granted(pair) => return Answer::Done(pair),
-        Search::Refused(why) => return Answer::Refused(why),
+        Grant::Granted(pair) => return Answer::Done(pair),
+        Grant::Refused(why) => return Answer::Refused(why),
     }
 }
 

@@ -24,7 +24,7 @@ use object_calls::obj_passwd_add;
 use object_calls::obj_passwd_drop;
 use pdx_calls::pdx_call;
 use pdx_calls::pdx_return;
-use pdx_calls::register::obj_cre_pdx;
+use register_call::obj_cre_pdx;
 use state::Domain;
 use state::Frame;
 use state::State;
@@ -97,7 +97,7 @@ fn carried_out(s: State, store: &mut [u64], d: usize, call: Call) -> Outcome
 }
 
 // A call by a domain, with check 3 left out: for a state that is known to be sound.
-pub fn unchecked(s: State, store: &mut [u64], d: u64, call: Call) -> Outcome
+fn unchecked(s: State, store: &mut [u64], d: u64, call: Call) -> Outcome
     ensures { λ r. ⌜ result r (now (store .exit)) ≡ unchecked (world s (now (store .entry))) d call ⌝ }
 {
     let caller = caller_of(store.len(), d);

@@ -19,9 +19,8 @@ use state::objects::new_object;
 ghost use mathlib.Core.Path.{_≡_};
 ghost use Prim.Native.Nat.{_<_};
 ghost use lib.ListN.{length};
-ghost use Rattle.calls.specs.Boot.{homeEstate, homeDomain, bootState, homePair, bootWords, homesOk, boot};
+ghost use Rattle.calls.specs.Boot.{homeEstate, homeDomain, bootState, homePair, bootWords, homesOk, bootedBy, boot};
 ghost use Rattle.calls.specs.Step.{result};
-ghost use Rattle.calls.specs.Laws.Booted.{bootedBy};
 
 // The estate of domain d after a boot: its first page, with the home password.
 fn home_estate(homes: [u64; 4], d: usize) -> Estate

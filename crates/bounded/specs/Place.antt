@@ -14,49 +14,49 @@ module _ (test : ℕ → Bool) (n : ℕ) where
   placeFor = first test (λ k. k) n 0 n
 
   -- a place that passes, and no place before it
-  pub record Found : Type 0 where
+  pub record PlaceFound : Type 0 where
     pub within : placeFor < n
     pub passes : test placeFor ≡ true
     pub before : (j : ℕ) → j < placeFor → test j ≡ false
 
   -- no place that passes
-  pub record Missing : Type 0 where
+  pub record PlaceMissing : Type 0 where
     pub end : placeFor ≡ n
     pub none : (j : ℕ) → j < n → test j ≡ false
 
   -- one or the other
-  pub search-cases : Found ⊎ Missing
+  pub search-cases : PlaceFound ⊎ PlaceMissing
   search-cases = go (first-cases test (λ k. k) n 0 n)
     where
-      go : FirstAt test (λ k. k) 0 n placeFor ⊎ NoneAt test 0 n → Found ⊎ Missing
+      go : FirstAt test (λ k. k) 0 n placeFor ⊎ NoneAt test 0 n → PlaceFound ⊎ PlaceMissing
       go (inl r) =
           inl (record { within = omega arith; passes = rw (← r .there) (r .holds); before = λ j l. r .before j (omega arith) (omega arith) })
       go (inr h) = inr (record { end = first-none test (λ k. k) n 0 n h; none = λ j l. h j (omega arith) (omega arith) })
 
   -- a place below n is one that passes
-  pub found-below : placeFor < n → Found
+  pub found-below : placeFor < n → PlaceFound
   found-below h = go search-cases
     where
-      go : Found ⊎ Missing → Found
+      go : PlaceFound ⊎ PlaceMissing → PlaceFound
       go (inl f) = f
       go (inr m) = absurd (omega arith)
 
   -- where the place is n, none passes
-  pub missing-end : placeFor ≡ n → Missing
+  pub missing-end : placeFor ≡ n → PlaceMissing
   missing-end h = go search-cases
     where
-      go : Found ⊎ Missing → Missing
+      go : PlaceFound ⊎ PlaceMissing → PlaceMissing
       go (inl f) = absurd (omega arith)
       go (inr m) = m
 
   -- where some place passes, one is found, and it comes no later
-  pub found-some : (k : ℕ) → k < n → test k ≡ true → Found × (placeFor ≤ k)
+  pub found-some : (k : ℕ) → k < n → test k ≡ true → PlaceFound × (placeFor ≤ k)
   found-some k l h = go search-cases
     where
-      go : Found ⊎ Missing → Found × (placeFor ≤ k)
+      go : PlaceFound ⊎ PlaceMissing → PlaceFound × (placeFor ≤ k)
       go (inl f) = (f, not-below f (ltb k placeFor) refl)
         where
-          not-below : Found → (b : Bool) → ltb k placeFor ≡ b → placeFor ≤ k
+          not-below : PlaceFound → (b : Bool) → ltb k placeFor ≡ b → placeFor ≤ k
           not-below f true e = absurd (true≢false (sym h ∙ f .before k (ltb-true _ _ e)))
           not-below f false e = ltb-false _ _ e
       go (inr m) = absurd (true≢false (sym h ∙ m .none k l))

@@ -38,5 +38,8 @@ abbrev pub noFields : Fields
 noFields = record { count = 0; values = replicate 11 0 }
 
 -- what stands behind the number: the value, or the fields of a done GT
+abbrev pub valuesFrom : Answer → Fields → List ℕ
+valuesFrom a f = cond (eqb (f .count) 0) (valueOf a ∷ []) (take (f .count) (f .values))
+
 abbrev pub valuesOf : Outcome → List ℕ
-valuesOf o = cond (eqb (o .fields .count) 0) (valueOf (o .answer) ∷ []) (take (o .fields .count) (o .fields .values))
+valuesOf o = valuesFrom (o .answer) (o .fields)

@@ -50,6 +50,10 @@ booted homes words (some r) = refused (world emptyState words) r
 unfoldable pub homesOk : List ℕ → Bool
 homesOk homes = below 4 (λ k. not (eqb (homeOf homes k) 0))
 
+-- BT behind checks 2 and 4
+abbrev pub bootedBy : List ℕ → List ℕ → Result
+bootedBy words homes = booted homes words (firstFailing (check OutOfRange (homesOk homes) ∷ []))
+
 -- BT by a domain on the words of a store: 2, 4 and 5
 unfoldable pub boot : List ℕ → ℕ → List ℕ → Result
 boot words d homes =

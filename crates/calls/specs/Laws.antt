@@ -3,6 +3,9 @@ pub mod Unchecked
 pub mod Returns
 pub mod Order
 pub mod Passed
+pub mod Levels
+pub mod Granted
+pub mod Searched
 pub mod Fit
 pub mod Sound
 pub mod Booted

@@ -5,6 +5,7 @@ pub mod Changes
 pub mod Rule
 pub mod Rules
 pub mod Step
+pub mod Authority
 pub mod Parts
 pub mod Boot
 pub mod Laws

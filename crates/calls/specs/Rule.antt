@@ -13,7 +13,7 @@ use Rattle.calls.specs.Changes.{Change, becomes, active}
 use Rattle.calls.specs.declared.Presented.{Presented}
 use Rattle.calls.specs.declared.Fields.{Fields}
 
--- what a done call touches that others may see: nothing, a word, the object with a base, the caller's own slots
+-- what a done call changes beside its caller's own estate and locks: nothing, a word, the object with a base, the caller's slots
 pub data Touch : Type 0 where
   touchesNothing : Touch
   touchesWord : ℕ → Touch

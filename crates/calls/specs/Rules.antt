@@ -7,7 +7,7 @@ use lib.Dec.{leb, ltb, eqb}
 use Rattle.rights.specs.Modes.{legal, read, write, execute, destroy, pdx, owner}
 use Rattle.state.specs.Places.{freeObject, estateAt, domainAt}
 use Rattle.state.specs.Extent.{covers, liesIn}
-use Rattle.state.specs.Lookup.{freePlace, placeOf, hasPassword}
+use Rattle.state.specs.Lookup.{freePlace, freePasswordPlace, hasPassword}
 use Rattle.state.specs.Update.{insertSlot, removeSlot, lockSlot, saveDomain, restoreDomain, newObject, withRegistration, addPassword, dropPassword, withObject}
 use Rattle.state.specs.declared.Frame.{Frame}
 use Rattle.judge.specs.declared.Target.the-variants.{Address}
@@ -50,7 +50,7 @@ objectRule (Delete b) = onObject (isPage b) b destroy none (λ o. []) (λ o. fre
 -- AP: a password more
 objectRule (AddPassword b k m) =
     onObject (isPage b && not (eqb k 0) && legal m) b owner none
-    (λ o. check HasPassword (not (hasPassword o k)) ∷ check Full (ltb (placeOf o 0) 4) ∷ [])
+    (λ o. check HasPassword (not (hasPassword o k)) ∷ check Full (ltb (freePasswordPlace o) 4) ∷ [])
     (λ o. addPassword o k m)
 -- DP: a password goes, or the registration that has it
 objectRule (DropPassword b k) = onObject (isPage b) b owner none (λ o. check Missing (hasPassword o k) ∷ []) (λ o. dropPassword o k)
@@ -134,11 +134,11 @@ unfoldable pub early : ℕ → Call → Frame → List Check
 early d c f = check NoDomain (ltb d 4) ∷ check OutOfRange (inRange c) ∷ check Locked (unlocked c f) ∷ []
 
 -- 7: the wanted rights are granted, and what is presented passes rule 1
-abbrev grantedCheck : Want → View → List Check
+abbrev pub grantedCheck : Want → View → List Check
 grantedCheck nothing v = []
 grantedCheck (rights target r) v = check NotGranted (isSome (v .found)) ∷ []
 
-abbrev presentedCheck : Option Presented → View → List Check
+abbrev pub presentedCheck : Option Presented → View → List Check
 presentedCheck none v = []
 presentedCheck (some l) v = check NotGranted (v .live) ∷ []
 

@@ -11,7 +11,8 @@ use Rattle.state.specs.declared.Table.{Table}
 use Rattle.state.specs.declared.Frame.{Frame}
 use Rattle.state.specs.declared.Domain.{Domain}
 use Rattle.state.specs.declared.State.{State}
-use Rattle.judge.specs.Search.{targeted, live}
+use Rattle.clists.specs.Clist.{live}
+use Rattle.judge.specs.Search.{targeted}
 use Rattle.judge.specs.declared.Target.{Target}
 use Rattle.judge.specs.declared.Target.the-variants.{Address, Base}
 use Rattle.judge.specs.declared.Judgement.{Judgement}

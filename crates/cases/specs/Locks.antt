@@ -1,15 +1,21 @@
--- Locks, as computed runs behind the listing of document 01.
-use mathlib.Core.Path.{_≡_, refl}
+-- Locks, as computed runs behind the listing of document 01; and that locking again changes nothing.
+use Prim.Native.Nat.{ℕ, _<_}
+use mathlib.Core.Path.{_≡_, refl, ap, sym}
+use mathlib.Core.Bool.{true, false}
 use mathlib.Core.List.{List, [], _∷_, _++_, map}
+use native.Mathlib.Omega.{arith}
+use lib.Dec.{eqb}
+use Rattle.state.specs.Update.{lockSlot}
+use Rattle.state.specs.declared.Frame.{Frame}
 use Rattle.judge.specs.Judged.{judged}
 use Rattle.calls.specs.View.{Judging}
 use Rattle.calls.specs.Step.{worldOf}
-use Rattle.cases.specs.Runs.{Line, by, answersBy, expected, by-search}
+use Rattle.cases.specs.Runs.{Exchange, by, answersBy, expected, by-search}
 use Rattle.cases.specs.Marked.{listingBoot, listing, registered}
 use Rattle.calls.specs.declared.Call.the-variants.{OnDomain}
 use Rattle.calls.specs.declared.DomainCall.the-variants.{Insert, Remove, Get, Lock, PdxCall, PdxReturn}
 
-abbrev pub lockRuns : List (List Line)
+abbrev pub lockRuns : List (List Exchange)
 lockRuns =
     -- the whole lock stops RM and CA, and neither RT nor LO, by which the locked count still rises
     (by 0 (OnDomain (Lock 255)) (0 ∷ 0 ∷ [])
@@ -31,10 +37,19 @@ lockRuns =
     ∷ [])
     ∷ []
 
-pub locks : map (λ (ls : List Line). answersBy judged (worldOf listingBoot) (listing ++ ls)) lockRuns
-    ≡ map (λ (ls : List Line). expected (listing ++ ls)) lockRuns
+pub locks : map (λ (es : List Exchange). answersBy judged (worldOf listingBoot) (listing ++ es)) lockRuns
+    ≡ map (λ (es : List Exchange). expected (listing ++ es)) lockRuns
 unfolding answersBy
 locks =
     by-search
-    (λ (j : Judging). map (λ (ls : List Line). answersBy j (worldOf listingBoot) (listing ++ ls)) lockRuns ≡ map (λ (ls : List Line). expected (listing ++ ls)) lockRuns)
+    (λ (j : Judging). map (λ (es : List Exchange). answersBy j (worldOf listingBoot) (listing ++ es)) lockRuns ≡ map (λ (es : List Exchange). expected (listing ++ es)) lockRuns)
     refl
+
+-- LO of a slot that is locked changes nothing, nor does LO 255 under the whole lock
+pub locked-already : (f : Frame) (i : ℕ) → i < f .locked → eqb i 255 ≡ false → lockSlot f i ≡ f
+unfolding lockSlot
+locked-already f i l e = rw e (ap (λ n. record { slots = f .slots; count = f .count; locked = n; whole = f .whole }) (omega arith))
+
+pub whole-already : (f : Frame) → f .whole ≡ true → lockSlot f 255 ≡ f
+unfolding lockSlot
+whole-already f e = ap (λ b. record { slots = f .slots; count = f .count; locked = f .locked; whole = b }) (sym e)

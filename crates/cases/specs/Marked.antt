@@ -7,7 +7,7 @@ use Rattle.judge.specs.Judged.{judged}
 use Rattle.calls.specs.View.{Judging}
 use Rattle.calls.specs.Step.{Result, worldOf, answerOf}
 use Rattle.calls.specs.Boot.{boot}
-use Rattle.cases.specs.Runs.{Line, by, answersBy, expected, by-search}
+use Rattle.cases.specs.Runs.{Exchange, by, answersBy, expected, by-search}
 use Rattle.calls.specs.declared.Call.the-variants.{OnStore, OnObject, OnDomain}
 use Rattle.calls.specs.declared.Access.the-variants.{Read, Write, Lookup}
 use Rattle.calls.specs.declared.ObjectCall.the-variants.{Create, AddPassword, Register}
@@ -18,7 +18,7 @@ abbrev pub listingBoot : Result
 listingBoot = boot (replicate 8192 0) 0 (11 ∷ 12 ∷ 13 ∷ 14 ∷ [])
 
 -- the listing of "The call program" behind its boot
-abbrev pub listing : List Line
+abbrev pub listing : List Exchange
 listing =
     by 0 (OnStore (Read 0)) (0 ∷ 15 ∷ [])
     ∷ by 1 (OnStore (Read 2048)) (0 ∷ 8207 ∷ [])
@@ -32,7 +32,7 @@ listing =
     ∷ by 0 (OnDomain Get) (0 ∷ 1 ∷ 0 ∷ 0 ∷ 0 ∷ [])
     ∷ []
 
-abbrev pub mode130 : ℕ → ℕ → List Line
+abbrev pub mode130 : ℕ → ℕ → List Exchange
 mode130 third fifth =
     by 0 (OnObject (AddPassword 1 22 130)) (0 ∷ 0 ∷ [])
     ∷ by 0 (OnStore (Write 3 third)) (0 ∷ 0 ∷ [])
@@ -41,7 +41,7 @@ mode130 third fifth =
     ∷ []
 
 -- domain 1 registers its page 33, and domain 0 gets the capability
-abbrev pub registered : List Line
+abbrev pub registered : List Exchange
 registered =
     by 1 (OnObject (Create 33 1 31)) (0 ∷ 0 ∷ [])
     ∷ by 1 (OnStore (Write 2050 8448)) (0 ∷ 0 ∷ [])
@@ -55,7 +55,7 @@ registered =
     ∷ []
 
 -- the cases; each starts after the whole listing
-abbrev pub cases : List (List Line)
+abbrev pub cases : List (List Exchange)
 cases =
     (by 0 (OnStore (Read 8192)) (5 ∷ 0 ∷ []) ∷ by 0 (OnStore (Read 8191)) (7 ∷ 0 ∷ []) ∷ [])
     ∷ (by 0 (OnObject (Create 31 2 9)) (9 ∷ 0 ∷ []) ∷ by 0 (OnObject (Create 31 1 9)) (0 ∷ 0 ∷ []) ∷ [])
@@ -79,10 +79,10 @@ cases =
 
 -- the whole table: the boot's answer, and the answers of each run
 abbrev pub answered : Judging → List (List (List ℕ))
-answered judging = (answerOf listingBoot ∷ []) ∷ map (λ (ls : List Line). answersBy judging (worldOf listingBoot) (listing ++ ls)) cases
+answered judging = (answerOf listingBoot ∷ []) ∷ map (λ (es : List Exchange). answersBy judging (worldOf listingBoot) (listing ++ es)) cases
 
 abbrev pub wantedAnswers : List (List (List ℕ))
-wantedAnswers = ((0 ∷ 0 ∷ []) ∷ []) ∷ map (λ (ls : List Line). expected (listing ++ ls)) cases
+wantedAnswers = ((0 ∷ 0 ∷ []) ∷ []) ∷ map (λ (es : List Exchange). expected (listing ++ es)) cases
 
 -- every marked case is answered as the paper says
 pub marked : answered judged ≡ wantedAnswers

@@ -14,33 +14,33 @@ use Rattle.judge.specs.Judged.{judged}
 use Rattle.calls.specs.View.{World, Judging}
 use Rattle.calls.specs.Changes.{flag}
 use Rattle.calls.specs.Step.{worldOf}
-use Rattle.cases.specs.Runs.{Line, by, answersBy, worldBy, expected, by-search}
+use Rattle.cases.specs.Runs.{Exchange, by, answersBy, worldBy, expected, by-search}
 use Rattle.cases.specs.Marked.{listingBoot, listing, registered}
 use Rattle.calls.specs.declared.Call.the-variants.{OnStore, OnDomain}
 use Rattle.calls.specs.declared.Access.the-variants.{Write}
 use Rattle.calls.specs.declared.DomainCall.the-variants.{Lock, PdxCall, PdxReturn}
 
 -- inside the procedure its page 33 may be written
-abbrev pub inside : List Line
+abbrev pub inside : List Exchange
 inside = listing ++ registered ++ by 0 (OnDomain (PdxCall 2112 0)) (0 ∷ 2112 ∷ []) ∷ by 0 (OnStore (Write 2113 1)) (0 ∷ 0 ∷ []) ∷ []
 
-abbrev pub deeper : List Line
+abbrev pub deeper : List Exchange
 deeper = by 0 (OnDomain (PdxCall 2112 0)) (0 ∷ 2112 ∷ []) ∷ []
 
 -- back outside it may not
-abbrev pub back : List Line
+abbrev pub back : List Exchange
 back = by 0 (OnDomain PdxReturn) (0 ∷ 0 ∷ []) ∷ []
 
-abbrev pub outside : List Line
+abbrev pub outside : List Exchange
 outside = by 0 (OnStore (Write 2113 2)) (7 ∷ 0 ∷ []) ∷ []
 
--- a run up to a nested call, the call, and the lines behind it
+-- a run up to a nested call, the call, and the exchanges behind it
 pub record Nested : Type 0 where
-  pub before : List Line
-  pub call : Line
-  pub after : List Line
+  pub before : List Exchange
+  pub call : Exchange
+  pub after : List Exchange
 
-abbrev pub whole : Nested → List Line
+abbrev pub whole : Nested → List Exchange
 whole n = n .before ++ n .call ∷ n .after
 
 abbrev pub nested : List Nested
@@ -78,9 +78,9 @@ domainNumbers m =
     ++ frameNumbers (savedAt m 2)
     ++ frameNumbers (savedAt m 3)
 
--- the caller's slots, locks and saved domains behind some lines
-abbrev pub callerAfter : Judging → List Line → List ℕ
-callerAfter judging ls = let w = worldBy judging start ls in domainNumbers (domainAt (w .state) 0)
+-- the caller's slots, locks and saved domains behind some exchanges
+abbrev pub callerAfter : Judging → List Exchange → List ℕ
+callerAfter judging es = let w = worldBy judging start es in domainNumbers (domainAt (w .state) 0)
 
 -- every line is answered as it says: the page is written inside, the nested call refused, the write after the return refused
 pub nested-answers : map (λ (n : Nested). answersBy judged start (whole n)) nested ≡ map (λ (n : Nested). expected (whole n)) nested

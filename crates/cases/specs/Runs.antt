@@ -8,7 +8,8 @@ use Rattle.state.specs.Extent.{covers, liesIn, apart}
 use Rattle.state.specs.Lookup.{covering, based, objectCovering, objectBased, placeBased, freePlace, placeOf, ordinaryMode, modeOf, hasPassword}
 use Rattle.state.specs.Update.{insertSlot, removeSlot, lockSlot, mergeList, onlyList, saveDomain, restoreDomain, newObject, addPassword, dropPassword}
 use Rattle.soundness.specs.Sound.{passwordOk, absent, distinct, entryOk, registrationOk, objectBounds, objectOk, apartAt, apartFrom, estateOk, slotOk, frameBounds, frameOk, savedOk, domainOk, soundAt, sound}
-use Rattle.judge.specs.Search.{live, clist, listAt, pairMode, verdictOf, pairVerdict, listVerdict, slotVerdict, frameVerdict, searched}
+use Rattle.clists.specs.Clist.{live, clist, listAt}
+use Rattle.judge.specs.Search.{pairMode, verdictOf, pairVerdict, listVerdict, slotVerdict, frameVerdict, searched}
 use Rattle.judge.specs.Judged.{judged}
 use Rattle.judge.specs.Judged.Inside.{judged-is}
 use Rattle.calls.specs.View.{World, Judging}
@@ -19,30 +20,30 @@ use Rattle.calls.specs.Step.{stepBy, worldOf, answerOf}
 use Rattle.calls.specs.Boot.{homeEstate, homeDomain, bootState, homePair, bootWords, homesOk, boot}
 use Rattle.calls.specs.declared.Call.{Call}
 
--- a line: a call by a domain, and the number and values that it must answer
-pub record Line : Type 0 where
+-- an exchange: a call by a domain, and the number and values that it must answer
+pub record Exchange : Type 0 where
   pub domain : ℕ
   pub call : Call
   pub answer : List ℕ
 
-abbrev pub by : ℕ → Call → List ℕ → Line
+abbrev pub by : ℕ → Call → List ℕ → Exchange
 by d c answer = record { domain = d; call = c; answer = answer }
 
--- the answers to lines, each on what the last one left; unfolding it unfolds all that it computes with
-unfoldable pub answersBy : Judging → World → List Line → List (List ℕ)
+-- the answers of exchanges, each on what the last one left; unfolding it unfolds all that it computes with
+unfoldable pub answersBy : Judging → World → List Exchange → List (List ℕ)
 unfolding touched first below covers passwordOk absent distinct entryOk registrationOk liesIn objectBounds objectOk apart apartAt apartFrom estateOk slotOk frameBounds frameOk savedOk domainOk soundAt sound covering based objectCovering objectBased placeBased freePlace placeOf ordinaryMode modeOf hasPassword insertSlot removeSlot lockSlot mergeList onlyList saveDomain restoreDomain newObject addPassword dropPassword live clist listAt pairMode verdictOf pairVerdict listVerdict slotVerdict frameVerdict searched inRange unlocked early view runFree isEntry late checks frameFields registration changes zeroed stepBy homeEstate homeDomain bootState homePair bootWords homesOk boot
 answersBy judging w [] = []
-answersBy judging w (l ∷ ls) =
-    let r = stepBy judging w (l .domain) (l .call) in answerOf r ∷ answersBy judging (worldOf r) ls
+answersBy judging w (e ∷ es) =
+    let r = stepBy judging w (e .domain) (e .call) in answerOf r ∷ answersBy judging (worldOf r) es
 
-abbrev pub expected : List Line → List (List ℕ)
-expected ls = map (λ (l : Line). l .answer) ls
+abbrev pub expected : List Exchange → List (List ℕ)
+expected es = map (λ (e : Exchange). e .answer) es
 
--- the world that lines leave
-unfoldable pub worldBy : Judging → World → List Line → World
+-- the world that exchanges leave
+unfoldable pub worldBy : Judging → World → List Exchange → World
 unfolding answersBy
 worldBy judging w [] = w
-worldBy judging w (l ∷ ls) = let r = stepBy judging w (l .domain) (l .call) in worldBy judging (worldOf r) ls
+worldBy judging w (e ∷ es) = let r = stepBy judging w (e .domain) (e .call) in worldBy judging (worldOf r) es
 
 -- an example is computed by the search, and holds of the judgement
 pub by-search : (P : Judging → Type 0) → P searched → P judged

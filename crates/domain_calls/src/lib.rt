@@ -6,7 +6,7 @@ use calls::Presented;
 use calls::Refusal;
 use calls::replies::moved;
 use calls::replies::stays;
-use judge::live;
+use clists::live;
 use state::Capability;
 use state::Domain;
 use state::Frame;

@@ -20,34 +20,30 @@ use Rattle.calls.specs.declared.ObjectCall.the-variants.{Create, Delete, AddPas
 use Rattle.calls.specs.declared.Presented.{Presented}
 use Rattle.calls.specs.declared.Refusal.{Refusal}
 use Rattle.calls.specs.declared.Entries.{Entries}
-use Rattle.isolation.specs.Runs.{kept, blanked}
+use Rattle.isolation.specs.Runs.{countedEntries, blanked}
 use Rattle.isolation.specs.Mask.{cond-cond}
 
--- the entries below the count, the others blanked
-abbrev keptEntries : Entries → Entries
-keptEntries es = record { count = es .count; first = kept es 0; second = kept es 1; third = kept es 2; fourth = kept es 3 }
-
 -- a test of a place that may be unused does not look at what is blanked
-kept-test : (test : ℕ → Bool) (n k x : ℕ) → (leb n k || test (cond (ltb k n) x 0)) ≡ (leb n k || test x)
-kept-test test n k x = go (leb n k) refl
+counted-test : (test : ℕ → Bool) (n k x : ℕ) → (leb n k || test (cond (ltb k n) x 0)) ≡ (leb n k || test x)
+counted-test test n k x = go (leb n k) refl
   where
     go : (b : Bool) → leb n k ≡ b → (b || test (cond (ltb k n) x 0)) ≡ (b || test x)
     go true e = refl
     go false e = rw (lt-ltb k n (leb-false n k e))
 
-entries-kept : (test : ℕ → Bool) (es : Entries) → entriesAll test (keptEntries es) ≡ entriesAll test es
+entries-counted : (test : ℕ → Bool) (es : Entries) → entriesAll test (countedEntries es) ≡ entriesAll test es
 unfolding below
-entries-kept test es =
+entries-counted test es =
     rw (
-      kept-test test (es .count) 0 (es .first),
-      kept-test test (es .count) 1 (es .second),
-      kept-test test (es .count) 2 (es .third),
-      kept-test test (es .count) 3 (es .fourth),
+      counted-test test (es .count) 0 (es .first),
+      counted-test test (es .count) 1 (es .second),
+      counted-test test (es .count) 2 (es .third),
+      counted-test test (es .count) 3 (es .fourth),
     )
 
-registration-kept : (k : ℕ) (l : Presented) (es : Entries) → registration k l (keptEntries es) ≡ registration k l es
+registration-counted : (k : ℕ) (l : Presented) (es : Entries) → registration k l (countedEntries es) ≡ registration k l es
 unfolding registration
-registration-kept k l es = simp cond-cond
+registration-counted k l es = simp cond-cond
 
 -- RG is checked and done alike
 module _ (b k : ℕ) (l : Presented) (es : Entries) (d : ℕ) where
@@ -55,28 +51,28 @@ module _ (b k : ℕ) (l : Presented) (es : Entries) (d : ℕ) where
   given = OnObject (Register b k l es)
 
   abbrev pub stripped : Call
-  stripped = OnObject (Register b k l (keptEntries es))
+  stripped = OnObject (Register b k l (countedEntries es))
 
-  range-kept : inRange stripped ≡ inRange given
+  range-same : inRange stripped ≡ inRange given
   unfolding inRange
-  range-kept = rw (entries-kept (λ a. ltb a 8192) es)
+  range-same = rw (entries-counted (λ a. ltb a 8192) es)
 
-  pub view-kept : (w : World) → view judged w d stripped ≡ view judged w d given
+  pub view-same : (w : World) → view judged w d stripped ≡ view judged w d given
   unfolding view rule
-  view-kept w = refl
+  view-same w = refl
 
-  checks-kept : (v : View) → checks d stripped v ≡ checks d given v
+  checks-same : (v : View) → checks d stripped v ≡ checks d given v
   unfolding checks early unlocked late
-  checks-kept v = rw (range-kept, entries-kept (λ a. covers (objectOf (v .found)) (a / 64)) es)
+  checks-same v = rw (range-same, entries-counted (λ a. covers (objectOf (v .found)) (a / 64)) es)
 
-  concluded-kept : (o : Option Refusal) (w : World) (v : View) → concluded o w d stripped v ≡ concluded o w d given v
+  concluded-same : (o : Option Refusal) (w : World) (v : View) → concluded o w d stripped v ≡ concluded o w d given v
   unfolding changes
-  concluded-kept none w v = rw (registration-kept k l es)
-  concluded-kept (some r) w v = refl
+  concluded-same none w v = rw (registration-counted k l es)
+  concluded-same (some r) w v = refl
 
-  register-kept : (w : World) → unchecked w d stripped ≡ unchecked w d given
+  register-same : (w : World) → unchecked w d stripped ≡ unchecked w d given
   unfolding uncheckedBy
-  register-kept w = rw (view-kept w, checks-kept (view judged w d given)) (concluded-kept (firstFailing (storeCheck w ∷ checks d given (view judged w d given))) w (view judged w d given))
+  register-same w = rw (view-same w, checks-same (view judged w d given)) (concluded-same (firstFailing (storeCheck w ∷ checks d given (view judged w d given))) w (view judged w d given))
 
 -- A call does what it does with the surplus blanked.
 pub unchecked-blanked : (w : World) (d : ℕ) (c : Call) → unchecked w d (blanked c) ≡ unchecked w d c
@@ -85,5 +81,5 @@ unchecked-blanked w d (OnObject (Create p n k)) = refl
 unchecked-blanked w d (OnObject (Delete b)) = refl
 unchecked-blanked w d (OnObject (AddPassword b k m)) = refl
 unchecked-blanked w d (OnObject (DropPassword b k)) = refl
-unchecked-blanked w d (OnObject (Register b k l es)) = register-kept b k l es d w
+unchecked-blanked w d (OnObject (Register b k l es)) = register-same b k l es d w
 unchecked-blanked w d (OnDomain c) = refl

@@ -12,7 +12,7 @@ use Rattle.calls.specs.Answers.{numberOf}
 use Rattle.calls.specs.View.{World}
 use Rattle.calls.specs.Boot.{homeOf}
 use Rattle.isolation.specs.Group.{Group, member, insidePage, insideAddress}
-use Rattle.isolation.specs.Runs.{Run, bootOf, startOf, final, answers, membersCalls}
+use Rattle.isolation.specs.Runs.{Run, bootResult, startOf, final, answers, membersCalls}
 use Rattle.isolation.specs.Premises.{Premises}
 
 -- the same slots in use, in order, and the same locks
@@ -37,8 +37,8 @@ pub record SameInside (G : Group) (w w′ : World) : Type 0 where
 
 -- what is asked of two runs: both boots answered 0, the same members' home passwords, the same members' calls, and the premises in both
 pub record Comparable (G : Group) (r r′ : Run) : Type 0 where
-  pub booted : numberOf (bootOf r .outcome .answer) ≡ 0
-  pub booted′ : numberOf (bootOf r′ .outcome .answer) ≡ 0
+  pub booted : numberOf (bootResult r .outcome .answer) ≡ 0
+  pub booted′ : numberOf (bootResult r′ .outcome .answer) ≡ 0
   pub homes : (d : ℕ) → member G d ≡ true → homeOf (r .homes) d ≡ homeOf (r′ .homes) d
   pub calls : membersCalls G r ≡ membersCalls G r′
   pub premises : Premises G r

@@ -29,7 +29,7 @@ use Rattle.calls.specs.Laws.Sound.{step-sound}
 use Rattle.calls.specs.declared.Call.{Call}
 use Rattle.calls.specs.declared.Presented.{Presented}
 use Rattle.isolation.specs.Group.{Group, member}
-use Rattle.isolation.specs.Runs.{Event, Run, bootOf, startOf, resultOf, membersOnly, membersCalls}
+use Rattle.isolation.specs.Runs.{Event, Run, bootResult, startOf, resultOf, membersOnly, membersCalls}
 use Rattle.isolation.specs.Premises.{staysInside, HeldInside, touchesInside, changesInside}
 use Rattle.isolation.specs.Claim.{Isolated}
 use Rattle.isolation.specs.Members.{member-below}
@@ -38,7 +38,7 @@ use Rattle.isolation.specs.Slots.{CallsAlong, slots-follow}
 
 -- the boot of a run is answered 0
 abbrev pub Booted : Run → Type 0
-Booted r = numberOf (bootOf r .outcome .answer) ≡ 0
+Booted r = numberOf (bootResult r .outcome .answer) ≡ 0
 
 -- the calls of a run meet their premises
 abbrev pub CallsMeet : Group → Run → Type 0

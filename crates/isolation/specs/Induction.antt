@@ -43,7 +43,7 @@ pub record SameAlone {World Part Event Answer : Type 0} (whole : Machine World E
 -- THE LAWS ASKED FOR, of a machine on whole worlds and one on parts, with what holds in every world of a run (`Good`) and what is asked of its calls
 pub record Parted {World Part Event Answer : Type 0} (whole : Machine World Event Answer) (alone : Machine Part Event Answer) (part : World → Part)
     (arguments : Event → Event) (member : Event → Bool) (Good : World → Type 0) (Asked : World → Event → Type 0) : Type 0 where
-  pub kept : (w : World) (e : Event) → Good w → Asked w e → Good (whole .after w e)
+  pub stays-good : (w : World) (e : Event) → Good w → Asked w e → Good (whole .after w e)
   pub by-member : (w : World) (e : Event) → Good w → Asked w e → member e ≡ true → SameAlone whole alone part arguments w e
   pub by-outsider : (w : World) (e : Event) → Good w → Asked w e → member e ≡ false → part (whole .after w e) ≡ part w
 
@@ -70,7 +70,7 @@ module _ {World Part Event Answer : Type 0} {whole : Machine World Event Answer}
   pub run-alone : (es : List Event) (w : World) → Good w → Throughout whole Asked w es → Alone whole alone part arguments member w es
   unfolding answersOf lastOf picked
   run-alone [] w g a = record { told = refl; ends = refl }
-  run-alone (e ∷ es) w g a = go (member e) refl (run-alone es (whole .after w e) (laws .kept w e g (a .0)) (a .1))
+  run-alone (e ∷ es) w g a = go (member e) refl (run-alone es (whole .after w e) (laws .stays-good w e g (a .0)) (a .1))
     where
       go : (b : Bool) → member e ≡ b → Alone whole alone part arguments member (whole .after w e) es → Alone whole alone part arguments member w (e ∷ es)
       go true m ih =

@@ -8,7 +8,7 @@ use Rattle.state.specs.Places.{slotAt, savedAt, domainAt}
 use Rattle.state.specs.Lookup.{objectBased, hasPassword}
 use Rattle.state.specs.declared.Table.{Table}
 use Rattle.state.specs.declared.Frame.{Frame}
-use Rattle.judge.specs.Laws.Pairs.{pairsAt, firstWord, secondWord}
+use Rattle.judge.specs.Pairs.{pairsAt, firstWord, secondWord}
 use Rattle.calls.specs.Answers.{numberOf}
 use Rattle.calls.specs.View.{Want, nothing, rights, World, firstFailing}
 use Rattle.calls.specs.Rule.{Touch, touchesNothing, touchesWord, touchesObject, touchesSlots}

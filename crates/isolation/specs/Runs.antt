@@ -27,11 +27,11 @@ pub record Run : Type 0 where
   pub homes : List ℕ
   pub events : List Event
 
-abbrev pub bootOf : Run → Result
-bootOf r = boot (r .store) (r .booter) (r .homes)
+abbrev pub bootResult : Run → Result
+bootResult r = boot (r .store) (r .booter) (r .homes)
 
 abbrev pub startOf : Run → World
-startOf r = worldOf (bootOf r)
+startOf r = worldOf (bootResult r)
 
 -- a call works on the world that the one before it left
 abbrev pub resultOf : World → Event → Result
@@ -53,25 +53,28 @@ membersOnly G [] = []
 membersOnly G (e ∷ es) = cond (member G (e .domain)) (e ∷ membersOnly G es) (membersOnly G es)
 
 -- what stands past the entry count of RG is no argument, and is blanked
-abbrev pub kept : Entries → ℕ → ℕ
-kept es k = cond (ltb k (es .count)) (entryOf es k) 0
+abbrev pub countedEntry : Entries → ℕ → ℕ
+countedEntry es k = cond (ltb k (es .count)) (entryOf es k) 0
+
+abbrev pub countedEntries : Entries → Entries
+countedEntries es =
+    record { count = es .count; first = countedEntry es 0; second = countedEntry es 1; third = countedEntry es 2; fourth = countedEntry es 3 }
 
 abbrev pub bare : ObjectCall → ObjectCall
 bare (Create p n k) = Create p n k
 bare (Delete b) = Delete b
 bare (AddPassword b k m) = AddPassword b k m
 bare (DropPassword b k) = DropPassword b k
-bare (Register b k l es) =
-    Register b k l (record { count = es .count; first = kept es 0; second = kept es 1; third = kept es 2; fourth = kept es 3 })
+bare (Register b k l es) = Register b k l (countedEntries es)
 
 abbrev pub blanked : Call → Call
 blanked (OnStore c) = OnStore c
 blanked (OnObject c) = OnObject (bare c)
 blanked (OnDomain c) = OnDomain c
 
-abbrev pub argumentsOf : Event → Event
-argumentsOf e = record { domain = e .domain; call = blanked (e .call) }
+abbrev pub blankedEvent : Event → Event
+blankedEvent e = record { domain = e .domain; call = blanked (e .call) }
 
 -- the members' calls of a run, known by domain, call and arguments: two runs must agree in these
 abbrev pub membersCalls : Group → Run → List Event
-membersCalls G r = map argumentsOf (membersOnly G (r .events))
+membersCalls G r = map blankedEvent (membersOnly G (r .events))

@@ -17,9 +17,11 @@ use Rattle.soundness.specs.Laws.Found.{based-answered, covering-answered, cover
 use Rattle.state.specs.declared.Capability.{Capability}
 use Rattle.state.specs.declared.Table.{Table}
 use Rattle.state.specs.declared.Frame.{Frame}
-use Rattle.judge.specs.Search.{named, live, listAt, targeted}
+use Rattle.clists.specs.Clist.{named, live, listAt}
+use Rattle.judge.specs.Search.{targeted}
 use Rattle.judge.specs.Judged.{judged}
-use Rattle.judge.specs.Laws.Lists.{live-named, live-base, SameClist, list-same, live-holds, live-local}
+use Rattle.clists.specs.Laws.Live.{live-named, live-base, live-holds, live-local}
+use Rattle.clists.specs.Laws.Lists.{SameClist, list-same}
 use Rattle.judge.specs.Laws.Local.{same-local, untrue-refused, free-refused}
 use Rattle.judge.specs.declared.Target.{Target}
 use Rattle.judge.specs.declared.Target.the-variants.{Address, Base}
@@ -42,7 +44,7 @@ not-held G t page password k o = not-true _ (unless (insidePage G page) _ k o)
 -- a capability that stays inside
 module _ (G : Group) (t : Table) (c : Capability) (k : staysInside G t (c .page) (c .password) ≡ true) where
   -- names an inside page where it is live
-  live-inside : live t c ≡ true → insidePage G (c .page) ≡ true
+  pub live-inside : live t c ≡ true → insidePage G (c .page) ≡ true
   live-inside a =
       ⊎-elim (λ i. i) (λ o. absurd (true≢false (sym (live-holds t c a) ∙ not-held G t (c .page) (c .password) k o))) (flag (insidePage G (c .page)))
 

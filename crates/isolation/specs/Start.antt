@@ -10,7 +10,7 @@ use Rattle.calls.specs.Answers.{numberOf}
 use Rattle.calls.specs.Boot.{homeOf, homeEstate, homeDomain, bootState, homePair, bootWords}
 use Rattle.calls.specs.Laws.Booted.{boot-done, boot-sound, boot-long}
 use Rattle.isolation.specs.Group.{Group, member, insideAddress}
-use Rattle.isolation.specs.Runs.{Run, bootOf, startOf}
+use Rattle.isolation.specs.Runs.{Run, bootResult, startOf}
 use Rattle.isolation.specs.Mask.{mask-tabulate, mask-set-same}
 use Rattle.isolation.specs.Part.{tablePart, domainsPart, wordsPart, part}
 use Rattle.isolation.specs.Steps.{Good}
@@ -39,11 +39,11 @@ module _ (G : Group) (homes homes′ : List ℕ) (same : (d : ℕ) → member G 
   words-start = pair-start 3 _ _ (pair-start 2 _ _ (pair-start 1 _ _ (pair-start 0 _ _ refl)))
 
 -- A done boot leaves a sound state and a store of 8,192 words.
-pub start-good : (r : Run) → numberOf (bootOf r .outcome .answer) ≡ 0 → Good (startOf r)
+pub start-good : (r : Run) → numberOf (bootResult r .outcome .answer) ≡ 0 → Good (startOf r)
 start-good r h = record { well = boot-sound (r .store) (r .booter) (r .homes); long = boot-long (r .store) (r .booter) (r .homes) h }
 
 -- TWO BOOTS with the same members' home passwords HAVE THE SAME PART.
-pub start-same : (G : Group) (r r′ : Run) → numberOf (bootOf r .outcome .answer) ≡ 0 → numberOf (bootOf r′ .outcome .answer) ≡ 0
+pub start-same : (G : Group) (r r′ : Run) → numberOf (bootResult r .outcome .answer) ≡ 0 → numberOf (bootResult r′ .outcome .answer) ≡ 0
     → ((d : ℕ) → member G d ≡ true → homeOf (r .homes) d ≡ homeOf (r′ .homes) d) → part G (startOf r) ≡ part G (startOf r′)
 start-same G r r′ h h′ same =
     rw (

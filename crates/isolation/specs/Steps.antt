@@ -30,7 +30,7 @@ use Rattle.calls.specs.declared.DomainCall.the-variants.{Insert, Remove, Get, L
 use Rattle.calls.specs.declared.Refusal.{Refusal}
 use Rattle.calls.specs.declared.Refusal.the-variants.{StoreLength}
 use Rattle.isolation.specs.Group.{Group, member}
-use Rattle.isolation.specs.Runs.{Event, resultOf, blanked, argumentsOf}
+use Rattle.isolation.specs.Runs.{Event, resultOf, blanked, blankedEvent}
 use Rattle.isolation.specs.Premises.{changesInside, OutsiderCall, StatePremise, CallPremise}
 use Rattle.isolation.specs.Part.{part, domain-in, words-length, part-part, all-in, AllOutside, all-out}
 use Rattle.isolation.specs.Seen.{view-in}
@@ -125,7 +125,7 @@ module _ (G : Group) (w : World) (e : Event) (g : Good w) (a : Asked G w e) (m :
       go (some r) p = stopped-alike r p
 
   -- A MEMBER'S CALL DOES TO THE PART WHAT IT DOES THERE ALONE, known by its arguments.
-  pub step-in : SameAlone monitor (lone G) (part G) argumentsOf w e
+  pub step-in : SameAlone monitor (lone G) (part G) blankedEvent w e
   unfolding uncheckedBy
   step-in =
       record {
@@ -174,10 +174,10 @@ step-out G w e o call = ⊎-elim (λ r. ap (λ x. part G (worldOf x)) (r .1)) (�
         (changes-out G w (e .domain) (e .call) o (call .granted (rw q refl)) p))
 
 -- THE MONITOR KEEPS THE LAWS that the induction over a run asks for.
-pub parted : (G : Group) → Parted monitor (lone G) (part G) argumentsOf (λ e. member G (e .domain)) Good (Asked G)
+pub parted : (G : Group) → Parted monitor (lone G) (part G) blankedEvent (λ e. member G (e .domain)) Good (Asked G)
 parted G =
     record {
-      kept = λ w e g a. record { well = step-sound w (e .domain) (e .call) (g .well); long = words-kept w (e .domain) (e .call) (g .long) };
+      stays-good = λ w e g a. record { well = step-sound w (e .domain) (e .call) (g .well); long = words-kept w (e .domain) (e .call) (g .long) };
       by-member = step-in G;
       by-outsider = λ w e g a o. step-out G w e o (a .call .of-outsider o);
     }

@@ -25,7 +25,8 @@ use Rattle.cases.specs.Nested.{sameNumbers}
 use Rattle.isolation.specs.Group.{Group, member, insidePage, insideAddress}
 use Rattle.isolation.specs.Runs.{Run, startOf, answers}
 use Rattle.isolation.specs.Claim.{SameFrame, SameDomain, SameInside, Isolated}
-use Rattle.isolation_examples.specs.Decided.{traceOf, trace-answers, trace-last, testing}
+use Rattle.isolation_examples.specs.Tests.{traceOf, testing}
+use Rattle.isolation_examples.specs.Decided.{trace-answers, trace-last}
 
 -- THE TESTS. The same answers
 unfoldable pub sameAnswers : List (List ℕ) → List (List ℕ) → Bool

@@ -13,7 +13,8 @@ use Rattle.calls.specs.declared.DomainCall.the-variants.{Insert, Remove, Get, L
 use Rattle.isolation.specs.Group.{Group}
 use Rattle.isolation.specs.Runs.{membersCalls}
 use Rattle.isolation.specs.Claim.{Comparable}
-use Rattle.isolation_examples.specs.Decided.{allTrue, tests-hold}
+use Rattle.isolation_examples.specs.Tests.{allTrue}
+use Rattle.isolation_examples.specs.Decided.{tests-hold}
 use Rattle.isolation_examples.specs.Compared.{allSame, comparing}
 use Rattle.isolation_examples.specs.Shown.{Told, runOf, Shown, by-computing, done, refuses, registers}
 
@@ -29,7 +30,7 @@ one =
       store = replicate 8192 0;
       booter = 0;
       homes = 11 ∷ 12 ∷ 13 ∷ 14 ∷ [];
-      lines =
+      exchanges =
           by 0 (OnObject (Create 1 1 21)) done
           ∷ by 1 (OnObject (Create 33 1 31)) done
           ∷ by 0 (OnStore (Write 2 256)) done
@@ -67,7 +68,7 @@ other =
       store = replicate 8192 1;
       booter = 3;
       homes = 41 ∷ 12 ∷ 13 ∷ 44 ∷ [];
-      lines =
+      exchanges =
           by 1 (OnObject (Create 33 1 31)) done
           ∷ by 1 (OnStore (Write 2050 8448)) done
           ∷ by 3 (OnDomain (Lock 255)) done

@@ -1,3 +1,4 @@
+pub mod Tests
 pub mod Decided
 pub mod Compared
 pub mod Shown

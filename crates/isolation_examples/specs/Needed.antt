@@ -7,7 +7,7 @@ use lib.Dec.{eqb}
 use lib.ListN.{replicate}
 use Rattle.judge.specs.Search.{searched}
 use Rattle.judge.specs.Judged.{judged}
-use Rattle.cases.specs.Runs.{Line, by}
+use Rattle.cases.specs.Runs.{Exchange, by}
 use Rattle.calls.specs.declared.Call.the-variants.{OnStore, OnObject, OnDomain}
 use Rattle.calls.specs.declared.Access.the-variants.{Read, Write}
 use Rattle.calls.specs.declared.ObjectCall.the-variants.{Create, Delete, AddPassword, DropPassword}
@@ -15,7 +15,7 @@ use Rattle.calls.specs.declared.DomainCall.the-variants.{Insert}
 use Rattle.isolation.specs.Group.{Group}
 use Rattle.isolation.specs.Runs.{membersCalls}
 use Rattle.isolation.specs.Claim.{Isolated}
-use Rattle.isolation_examples.specs.Decided.{Tests, allTrue}
+use Rattle.isolation_examples.specs.Tests.{Tests, allTrue}
 use Rattle.isolation_examples.specs.Compared.{Parts, comparing}
 use Rattle.isolation_examples.specs.Shown.{Told, runOf, Shown, by-computing, differ, fails, told, done, refuses, registers}
 
@@ -59,8 +59,8 @@ abbrev pub inAll : Parts
 inAll = record { answers = false; words = false; objects = false; domains = false }
 
 -- a run with other home passwords
-abbrev pub housedAs : List ℕ → List Line → Told
-housedAs hs ls = record { store = replicate 8192 0; booter = 0; homes = hs; lines = ls }
+abbrev pub housedAs : List ℕ → List Exchange → Told
+housedAs hs es = record { store = replicate 8192 0; booter = 0; homes = hs; exchanges = es }
 
 -- THE LISTS: the member writes into its list a pair that is true for an outside page if the outsider has created that.
 abbrev pub pairs : Told
@@ -99,8 +99,8 @@ registered-needed =
     broken held registered registered′ inObjects (record { answered = refl; answered′ = refl; tested = refl; compared = refl }) refl refl
 
 -- the outsider has guessed the member's home password, and writes the pair into its own list
-abbrev pub guessed : List Line → Told
-guessed ls = told (by 0 (OnStore (Write 2 8192)) done ∷ by 0 (OnStore (Write 3 12)) done ∷ ls)
+abbrev pub guessed : List Exchange → Told
+guessed es = told (by 0 (OnStore (Write 2 8192)) done ∷ by 0 (OnStore (Write 3 12)) done ∷ es)
 
 -- A CHANGE INSIDE by WR
 abbrev pub written : Told

@@ -1,4 +1,4 @@
--- Runs told by their lines, and what is shown of two of them.
+-- Runs told by their exchanges, and what is shown of two of them.
 use Prim.Native.Nat.{ℕ}
 use mathlib.Core.Path.{_≡_, ap, sym, _∙_}
 use mathlib.Core.Bool.{Bool, true, not, _&&_, true≢false}
@@ -7,14 +7,14 @@ use lib.ListN.{replicate}
 use Rattle.judge.specs.Search.{searched}
 use Rattle.judge.specs.Judged.{judged}
 use Rattle.calls.specs.View.{Judging}
-use Rattle.cases.specs.Runs.{Line, answersBy, expected, by-search}
+use Rattle.cases.specs.Runs.{Exchange, answersBy, expected, by-search}
 use Rattle.calls.specs.declared.Call.{Call}
 use Rattle.calls.specs.declared.Call.the-variants.{OnObject}
 use Rattle.calls.specs.declared.ObjectCall.the-variants.{Register}
 use Rattle.isolation.specs.Group.{Group}
 use Rattle.isolation.specs.Runs.{Event, Run, startOf}
 use Rattle.isolation.specs.Claim.{Isolated}
-use Rattle.isolation_examples.specs.Decided.{Tests, testsBy}
+use Rattle.isolation_examples.specs.Tests.{Tests, testsBy}
 use Rattle.isolation_examples.specs.Compared.{Parts, partsBy, parts-hold}
 
 -- a run, each call with the number and values that it must answer
@@ -22,18 +22,18 @@ pub record Told : Type 0 where
   pub store : List ℕ
   pub booter : ℕ
   pub homes : List ℕ
-  pub lines : List Line
+  pub exchanges : List Exchange
 
-abbrev pub eventOf : Line → Event
-eventOf l = record { domain = l .domain; call = l .call }
+abbrev pub eventOf : Exchange → Event
+eventOf e = record { domain = e .domain; call = e .call }
 
 abbrev pub runOf : Told → Run
-runOf t = record { store = t .store; booter = t .booter; homes = t .homes; events = map eventOf (t .lines) }
+runOf t = record { store = t .store; booter = t .booter; homes = t .homes; events = map eventOf (t .exchanges) }
 
 -- two runs shown by computing: every answer, every premise's test, every part of the conclusion
 pub record Shown (judging : Judging) (G : Group) (t t′ : Told) (tests : Tests) (parts : Parts) : Type 0 where
-  pub answered : answersBy judging (startOf (runOf t)) (t .lines) ≡ expected (t .lines)
-  pub answered′ : answersBy judging (startOf (runOf t′)) (t′ .lines) ≡ expected (t′ .lines)
+  pub answered : answersBy judging (startOf (runOf t)) (t .exchanges) ≡ expected (t .exchanges)
+  pub answered′ : answersBy judging (startOf (runOf t′)) (t′ .exchanges) ≡ expected (t′ .exchanges)
   pub tested : testsBy judging G (runOf t) (runOf t′) ≡ tests
   pub compared : partsBy judging G (runOf t) (runOf t′) ≡ parts
 
@@ -52,8 +52,8 @@ fails {G} {t} {t′} s h i =
     let e = sym (s .compared) ∙ parts-hold G (runOf t) (runOf t′) i in true≢false (sym h ∙ ap differ e)
 
 -- a boot with the home passwords 11, 12, 13, 14 on a store of zeros
-abbrev pub told : List Line → Told
-told ls = record { store = replicate 8192 0; booter = 0; homes = 11 ∷ 12 ∷ 13 ∷ 14 ∷ []; lines = ls }
+abbrev pub told : List Exchange → Told
+told es = record { store = replicate 8192 0; booter = 0; homes = 11 ∷ 12 ∷ 13 ∷ 14 ∷ []; exchanges = es }
 
 -- a registration with one entry
 abbrev pub registers : ℕ → ℕ → ℕ → ℕ → ℕ → Call

@@ -1,6 +1,5 @@
 -- The laws of the judgement. Deciding is about the search, and is not for the crates above.
 pub mod Pairs
-pub mod Lists
 mod Deciding
 pub mod Exactly
 pub mod Local

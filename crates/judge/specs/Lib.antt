@@ -1,5 +1,6 @@
 pub mod Search
+pub mod Pairs
+pub mod Granting
 pub mod Naming
-pub mod Opening
 pub mod Judged
 pub mod Laws

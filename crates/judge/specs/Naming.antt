@@ -11,7 +11,7 @@ use Rattle.bounded.specs.Search.{Skipped}
 use Rattle.rights.specs.Modes.{grants}
 use Rattle.state.specs.declared.Object.{Object}
 use Rattle.judge.specs.Search.{pairMode, verdictOf, pairVerdict, decides}
-use Rattle.judge.specs.Laws.Lists.{grants-some}
+use Rattle.clists.specs.Laws.Live.{grants-some}
 use Rattle.judge.specs.declared.Verdict.the-variants.{Passed}
 
 -- the first word of pair i has the base as its page

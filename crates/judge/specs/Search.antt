@@ -1,44 +1,24 @@
--- How an access is judged: document 01, "How an access is judged", rules 1 to 4.
+-- How an access is judged: document 01, "How an access is judged", rules 2 to 4.
 use Prim.Native.Nat.{ℕ, _+_, _*_, _/_}
-use mathlib.Core.Bool.{Bool, true, false, cond, _&&_, _||_}
-use mathlib.Core.List.{List, []}
-use lib.Dec.{leb, ltb, eqb}
-use lib.ListN.{length, take, drop, getD}
+use mathlib.Core.Bool.{Bool, true, false, cond, _||_}
+use mathlib.Core.List.{List}
+use lib.Dec.{eqb}
+use lib.ListN.{length, getD}
 use Rattle.bounded.specs.Search.{first}
 use Rattle.rights.specs.Modes.{grants, denies}
 use Rattle.state.specs.Places.{slotAt}
 use Rattle.state.specs.Extent.{free}
-use Rattle.state.specs.Lookup.{objectCovering, objectBased, ordinaryMode, modeOf}
-use Rattle.state.specs.declared.Capability.{Capability}
+use Rattle.state.specs.Lookup.{objectCovering, objectBased, modeOf}
 use Rattle.state.specs.declared.Object.{Object}
 use Rattle.state.specs.declared.Table.{Table}
 use Rattle.state.specs.declared.Frame.{Frame}
+use Rattle.clists.specs.Clist.{listAt}
 use Rattle.judge.specs.declared.Target.{Target}
 use Rattle.judge.specs.declared.Target.the-variants.{Address, Base}
 use Rattle.judge.specs.declared.Verdict.{Verdict}
 use Rattle.judge.specs.declared.Verdict.the-variants.{Granted, Denied, Passed}
 use Rattle.judge.specs.declared.Judgement.{Judgement}
 use Rattle.judge.specs.declared.Judgement.the-variants.{Refused}
-
--- the object that a capability names by its page
-abbrev pub named : Table → Capability → Object
-named t c = objectBased t (c .page)
-
--- rule 1: a capability is live where it shows an ordinary password, positive and with R, of the object that it names
-unfoldable pub live : Table → Capability → Bool
-live t c = grants (ordinaryMode (named t c) (c .password)) 1
-
--- the words of a run of pages; none where the store is too short for it
-abbrev pub runWords : List ℕ → ℕ → ℕ → List ℕ
-runWords words base pages = cond (leb (64 * (base + pages)) (length words)) (take (64 * pages) (drop (64 * base) words)) []
-
--- an object as a Clist: the words of its run
-unfoldable pub clist : List ℕ → Object → List ℕ
-clist words o = runWords words (o .base) (o .pages)
-
--- the words of the Clist at slot k; none where the slot is unused or not live
-unfoldable pub listAt : Table → List ℕ → Frame → ℕ → List ℕ
-listAt t words f k = cond (ltb k (f .count) && live t (slotAt f k)) (clist words (named t (slotAt f k))) []
 
 -- the mode that a pair of words has for the object: that of its password where its page is the base, else 0; the hint, the last
 -- byte of the first word, is not looked at

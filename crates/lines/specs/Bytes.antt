@@ -10,7 +10,7 @@ use borrow.Author.Tests.{lt-ltb, le-leb, lt-leb, leb-true, ne-eqb}
 use Rattle.bounded.specs.Bools.{and-left, and-right}
 use Rattle.lines.specs.declared.Field.{Field}
 use Rattle.lines.specs.declared.Field.the-variants.{Empty, Number, Bad}
-use Rattle.lines.specs.Number.{isDigit, withDigit, after, numberOf}
+use Rattle.lines.specs.Number.{isDigit, withDigit, after, fieldOf}
 
 pub digit-low : (b : ℕ) → isDigit b ≡ true → 48 ≤ b
 digit-low b h = leb-true 48 b (and-left (leb 48 b) (leb b 57) h)
@@ -44,20 +44,20 @@ bad-stays (b ∷ s) = go (isDigit b) (bad-stays s)
     go true h = h
     go false h = h
 
-pub empty-field : (s : List ℕ) → length s ≡ 0 → Empty ≡ numberOf s
-unfolding numberOf
+pub empty-field : (s : List ℕ) → length s ≡ 0 → Empty ≡ fieldOf s
+unfolding fieldOf
 empty-field [] h = refl
 empty-field (a ∷ s) h = absurd (omega arith)
 
-pub zero-field : (s : List ℕ) → length s ≡ 1 → getD s 0 0 ≡ 48 → Number 0 ≡ numberOf s
-unfolding numberOf
+pub zero-field : (s : List ℕ) → length s ≡ 1 → getD s 0 0 ≡ 48 → Number 0 ≡ fieldOf s
+unfolding fieldOf
 zero-field [] h e = absurd (omega arith)
 zero-field (a ∷ []) h e = rw e
 zero-field (a ∷ b ∷ s) h e = absurd (omega arith)
 
 -- no digit goes on after a leading zero
-pub zero-alone : (s : List ℕ) → 1 < length s → getD s 0 0 ≡ 48 → Bad ≡ numberOf s
-unfolding numberOf
+pub zero-alone : (s : List ℕ) → 1 < length s → getD s 0 0 ≡ 48 → Bad ≡ fieldOf s
+unfolding fieldOf
 zero-alone [] h e = absurd (omega arith)
 zero-alone (a ∷ []) h e = absurd (omega arith)
 zero-alone (a ∷ b ∷ s) h e = rw e (go (isDigit b))

@@ -5,7 +5,7 @@ use mathlib.Core.Bool.{Bool, true, false, cond, not, _&&_}
 use mathlib.Core.List.{List, [], _∷_, _++_, append-nil}
 use lib.Dec.{eqb}
 use borrow.Author.Tests.{eqb-true}
-use Rattle.lines.specs.Split.{split, apart, onto}
+use Rattle.lines.specs.Split.{split, fieldEnds, onto}
 
 -- fields, each behind a comma
 unfoldable pub behindCommas : List (List ℕ) → List ℕ
@@ -18,7 +18,7 @@ split-joined [] = refl
 split-joined (b ∷ s) = go (eqb b 44) refl (split-joined s)
   where
     go : (t : Bool) → eqb b 44 ≡ t → split s .first ++ behindCommas (split s .others) ≡ s
-        → cond t (apart (split s)) (onto b (split s)) .first ++ behindCommas (cond t (apart (split s)) (onto b (split s)) .others) ≡ b ∷ s
+        → cond t (fieldEnds (split s)) (onto b (split s)) .first ++ behindCommas (cond t (fieldEnds (split s)) (onto b (split s)) .others) ≡ b ∷ s
     go true e h = let w : b ≡ 44 = eqb-true b 44 e in rw (h, w)
     go false e h = ap (λ (l : List ℕ). b ∷ l) h
 
@@ -37,7 +37,7 @@ split-one [] h = refl
 split-one (b ∷ f) h = go (eqb b 44) h (split-one f)
   where
     go : (t : Bool) → (not t && plain f) ≡ true → (plain f ≡ true → split f ≡ record { first = f; others = [] })
-        → cond t (apart (split f)) (onto b (split f)) ≡ record { first = b ∷ f; others = [] }
+        → cond t (fieldEnds (split f)) (onto b (split f)) ≡ record { first = b ∷ f; others = [] }
     go true k ih = cc
     go false k ih = ap (onto b) (ih k)
 
@@ -48,7 +48,7 @@ split-first (b ∷ f) t h = go (eqb b 44) h (split-first f t)
   where
     go : (u : Bool) → (not u && plain f) ≡ true
         → (plain f ≡ true → split (f ++ (44 ∷ t)) ≡ record { first = f; others = split t .first ∷ split t .others })
-        → cond u (apart (split (f ++ (44 ∷ t)))) (onto b (split (f ++ (44 ∷ t)))) ≡ record { first = b ∷ f; others = split t .first ∷ split t .others }
+        → cond u (fieldEnds (split (f ++ (44 ∷ t)))) (onto b (split (f ++ (44 ∷ t)))) ≡ record { first = b ∷ f; others = split t .first ∷ split t .others }
     go true k ih = cc
     go false k ih = ap (onto b) (ih k)
 

@@ -1,10 +1,13 @@
 pub mod Number
+pub mod Split
+pub mod Arguments
+pub mod Letters
+pub mod Grammar
 pub mod Bytes
 pub mod Short
 pub mod Until
-pub mod Split
-pub mod Arguments
-pub mod Grammar
+pub mod Cut
+pub mod Taking
 pub mod Reading
 pub mod Joined
 pub mod Examples

@@ -25,5 +25,5 @@ abbrev pub after : Field → ℕ → Field
 after f b = cond (isDigit b) (withDigit f b) Bad
 
 -- the reading of a field, from its first byte to its last
-unfoldable pub numberOf : List ℕ → Field
-numberOf s = foldl after Empty s
+unfoldable pub fieldOf : List ℕ → Field
+fieldOf s = foldl after Empty s

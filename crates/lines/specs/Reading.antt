@@ -10,38 +10,46 @@ use borrow.Author.Tests.{le-ltb}
 use Rattle.bounded.specs.Folds.{rest-all}
 use Rattle.lines.specs.declared.Field.{Field}
 use Rattle.lines.specs.declared.Field.the-variants.{Empty, Number, Bad}
+use Rattle.lines.specs.declared.Letters.the-variants.{Unknown, Known}
+use Rattle.lines.specs.declared.Mnemonic.{Mnemonic}
 use Rattle.lines.specs.declared.Eight.{Eight}
 use Rattle.lines.specs.declared.Arguments.the-variants as arguments
 use Rattle.lines.specs.declared.Line.the-variants as line
-use Rattle.lines.specs.Number.{numberOf}
-use Rattle.lines.specs.Split.{commaOf, behind, cut, behind-at}
-use Rattle.lines.specs.Arguments.{numbersOf, given, argumentsOf, isNumber}
-use Rattle.lines.specs.Grammar.{lettersOf, callOf, withArguments, withDomain, lineOf}
+use Rattle.lines.specs.Number.{fieldOf}
+use Rattle.lines.specs.Cut.{commaOf, behind, cut, behind-at}
+use Rattle.lines.specs.Arguments.{numbersOf}
+use Rattle.lines.specs.Taking.{given, argumentsOf, isNumber}
+use Rattle.lines.specs.Letters.{lettersOf}
+use Rattle.lines.specs.Grammar.{callOf, withArguments, lineWith, lineOf}
 
-domain-bad : (f : Field) (fs : List (List ℕ)) → isNumber f ≡ false → line.Unreadable ≡ withDomain f fs
+domain-bad : (f : Field) (fs : List (List ℕ)) → isNumber f ≡ false → line.Unreadable ≡ lineWith f fs
 domain-bad Empty fs h = refl
 domain-bad (Number v) fs h = cc
 domain-bad Bad fs h = refl
 
-given-bad : (d l : ℕ) (o : Option (List ℕ)) → given o ≡ arguments.Unreadable → line.Unreadable ≡ withArguments d l o
-given-bad d l none h = refl
-given-bad d l (some vs) h = cc
+letters-bad : (d : ℕ) (o : Option (List ℕ)) → line.Unreadable ≡ withArguments d Unknown o
+letters-bad d none = refl
+letters-bad d (some vs) = refl
 
-given-numbers : (d l : ℕ) (o : Option (List ℕ)) {n : ℕ} {x : Eight} → given o ≡ arguments.Numbers n x → callOf d l n x ≡ withArguments d l o
-given-numbers d l none h = cc
-given-numbers d l (some vs) h = cc
+given-bad : (d : ℕ) (m : Mnemonic) (o : Option (List ℕ)) → given o ≡ arguments.Unreadable → line.Unreadable ≡ withArguments d (Known m) o
+given-bad d m none h = refl
+given-bad d m (some vs) h = cc
+
+given-numbers : (d : ℕ) (m : Mnemonic) (o : Option (List ℕ)) {n : ℕ} {x : Eight} → given o ≡ arguments.Numbers n x → callOf d m n x ≡ withArguments d (Known m) o
+given-numbers d m none h = cc
+given-numbers d m (some vs) h = cc
 
 module _ (s : List ℕ) (fits : length s ≤ 200) {d : ℕ} (first : d ≡ 0 + commaOf s) where
-  line-is : lineOf s ≡ withDomain (numberOf (take d s)) (behind (drop d s))
+  line-is : lineOf s ≡ lineWith (fieldOf (take d s)) (behind (drop d s))
   unfolding lineOf
   line-is =
       let w : commaOf s ≡ d = omega arith in
       rw (le-ltb _ _ fits, cut s, w)
 
-  pub no-domain : isNumber (numberOf (take d s)) ≡ false → line.Unreadable ≡ lineOf s
-  no-domain h = rw line-is (domain-bad (numberOf (take d s)) (behind (drop d s)) h)
+  pub no-domain : isNumber (fieldOf (take d s)) ≡ false → line.Unreadable ≡ lineOf s
+  no-domain h = rw line-is (domain-bad (fieldOf (take d s)) (behind (drop d s)) h)
 
-  module _ {v : ℕ} (domain : Number v ≡ numberOf (take d s)) where
+  module _ {v : ℕ} (domain : Number v ≡ fieldOf (take d s)) where
     pub no-letters : d ≡ length s → line.Unreadable ≡ lineOf s
     no-letters h = let l : length s ≤ d = omega arith in rw (line-is, ← domain, drop-of-length-le s l)
 
@@ -51,11 +59,14 @@ module _ (s : List ℕ) (fits : length s ≤ 200) {d : ℕ} (first : d ≡ 0 + c
           let w : e - (d + 1) ≡ commaOf (drop (d + 1) s) = omega arith in
           rw (line-is, ← domain, behind-at s d l, w, end)
 
-      pub no-arguments : arguments.Unreadable ≡ argumentsOf (take (length s - e) (drop e s)) → line.Unreadable ≡ lineOf s
-      unfolding argumentsOf
-      no-arguments h = rw line-at (given-bad v (lettersOf (take (e - (d + 1)) (drop (d + 1) s))) (numbersOf (behind (drop e s))) (sym (rw rest-all at h)))
+      pub unknown-letters : Unknown ≡ lettersOf (take (e - (d + 1)) (drop (d + 1) s)) → line.Unreadable ≡ lineOf s
+      unknown-letters h = rw (line-at, ← h) (letters-bad v (numbersOf (behind (drop e s))))
 
-      pub all-read : {n : ℕ} {x : Eight} → arguments.Numbers n x ≡ argumentsOf (take (length s - e) (drop e s))
-          → callOf v (lettersOf (take (e - (d + 1)) (drop (d + 1) s))) n x ≡ lineOf s
-      unfolding argumentsOf
-      all-read h = rw line-at (given-numbers v (lettersOf (take (e - (d + 1)) (drop (d + 1) s))) (numbersOf (behind (drop e s))) (sym (rw rest-all at h)))
+      module _ {m : Mnemonic} (known : Known m ≡ lettersOf (take (e - (d + 1)) (drop (d + 1) s))) where
+        pub no-arguments : arguments.Unreadable ≡ argumentsOf (take (length s - e) (drop e s)) → line.Unreadable ≡ lineOf s
+        unfolding argumentsOf
+        no-arguments h = rw (line-at, ← known) (given-bad v m (numbersOf (behind (drop e s))) (sym (rw rest-all at h)))
+
+        pub all-read : {n : ℕ} {x : Eight} → arguments.Numbers n x ≡ argumentsOf (take (length s - e) (drop e s)) → callOf v m n x ≡ lineOf s
+        unfolding argumentsOf
+        all-read h = rw (line-at, ← known) (given-numbers v m (numbersOf (behind (drop e s))) (sym (rw rest-all at h)))

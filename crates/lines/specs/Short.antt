@@ -12,7 +12,7 @@ use Rattle.bounded.specs.Bools.{and-left, and-right}
 use Rattle.bounded.specs.Folds.{Folding, folding-none, folding-more, folding-all}
 use Rattle.lines.specs.declared.Field.{Field}
 use Rattle.lines.specs.declared.Field.the-variants.{Empty, Number, Bad}
-use Rattle.lines.specs.Number.{isDigit, after, numberOf}
+use Rattle.lines.specs.Number.{isDigit, after, fieldOf}
 use Rattle.lines.specs.Bytes.{digit-low, digit-high, first-digit, next-digit, not-digit, bad-stays}
 
 -- the value of digits that goes on by the digit b
@@ -50,14 +50,14 @@ module _ {s : List ℕ} {i v : ℕ} (d : Digits s i v) where
       let p : 10 ^ i ≤ 10 ^ 18 = pow-le-pow-right (omega arith) {j = 18} (omega arith) in
       omega (arith, d .small)
 
-  pub digits-bad : i < length s → isDigit (getD s i 0) ≡ false → Bad ≡ numberOf s
-  unfolding numberOf
+  pub digits-bad : i < length s → isDigit (getD s i 0) ≡ false → Bad ≡ fieldOf s
+  unfolding fieldOf
   digits-bad h n =
       sym
       (d .fold .rest ∙ rw (drop-cons s i 0) (ap (λ (f : Field). foldl after f (drop (suc i) s)) (not-digit (soFar i v) (getD s i 0) n)) ∙ bad-stays (drop (suc i) s))
 
-  pub digits-all : 0 < length s → length s ≤ i → Number v ≡ numberOf s
-  unfolding numberOf
+  pub digits-all : 0 < length s → length s ≤ i → Number v ≡ fieldOf s
+  unfolding fieldOf
   digits-all z h =
       let e : i ≡ suc (i - 1) = omega arith in
       let w : soFar i v ≡ Number v = rw e in
@@ -95,8 +95,8 @@ value-from (b ∷ s) i v l h p d =
     ∙ value-from s (suc i) (withValue v b) (omega arith) (omega arith) (omega arith) (and-right (isDigit b) (allDigits s) d)
 
 -- up to 19 digits without a leading zero read as their value
-pub short-value : (s : List ℕ) → 0 < length s → length s ≤ 19 → (getD s 0 0 ≡ 48 → ⊥) → allDigits s ≡ true → numberOf s ≡ Number (valueOf s)
-unfolding numberOf valueOf allDigits
+pub short-value : (s : List ℕ) → 0 < length s → length s ≤ 19 → (getD s 0 0 ≡ 48 → ⊥) → allDigits s ≡ true → fieldOf s ≡ Number (valueOf s)
+unfolding fieldOf valueOf allDigits
 short-value [] z l n d = absurd (omega arith)
 short-value (b ∷ s) z l n d =
     let lo = digit-low b (and-left (isDigit b) (allDigits s) d) in

@@ -1,9 +1,12 @@
-// The fields of a line: where they end, and the numbers that they hold.
+// The fields of a line: where they end, and what they hold.
 use crate::Field;
+use crate::Letters;
+use crate::Mnemonic;
 ghost use mathlib.Core.Path.{_≡_};
 ghost use Prim.Native.Nat.{_+_, _-_, _<_, _≤_};
 ghost use lib.ListN.{length, drop, getD};
-ghost use Rattle.lines.specs.Number.{after as Number·after, grown as Number·grown, numberOf};
+ghost use Rattle.lines.specs.Letters.{lettersPair, mnemonicOf, lettersOf};
+ghost use Rattle.lines.specs.Number.{after as Number·after, grown as Number·grown, fieldOf};
 ghost use Rattle.lines.specs.Until.{until};
 
 // The number v with one digit more.
@@ -40,7 +43,7 @@ fn after(f: Field, b: u8) -> Field
 
 // A field byte by byte.
 fn long_number(s: &[u8]) -> Field
-    ensures { λ r. ⌜ r ≡ numberOf (now (s .entry)) ⌝ }
+    ensures { λ r. ⌜ r ≡ fieldOf (now (s .entry)) ⌝ }
 {
     let mut f = Field::Empty;
     let mut i = 0;
@@ -54,7 +57,7 @@ fn long_number(s: &[u8]) -> Field
 // A field of up to 19 bytes that does not begin with 0: no digit more makes its number too large.
 fn short_number(s: &[u8]) -> Field
     requires { ⌜ (0 < length (now s)) × (length (now s) ≤ 19) × (getD (now s) 0 0 ≡ 48 → ⊥) ⌝ }
-    ensures { λ r. ⌜ r ≡ numberOf (now (s .entry)) ⌝ }
+    ensures { λ r. ⌜ r ≡ fieldOf (now (s .entry)) ⌝ }
 {
     let mut v = 0;
     let mut i = 0;
@@ -74,7 +77,7 @@ fn short_number(s: &[u8]) -> Field
 
 // A field: the digits of a number below 2^64, with no needless zero in front.
 pub fn number(s: &[u8]) -> Field
-    ensures { λ r. ⌜ r ≡ numberOf (now (s .entry)) ⌝ }
+    ensures { λ r. ⌜ r ≡ fieldOf (now (s .entry)) ⌝ }
 {
     let n = s.len();
     if n == 0 {
@@ -90,6 +93,47 @@ pub fn number(s: &[u8]) -> Field
         return Field::Number(0);
     }
     Field::Bad
+}
+
+fn pair(a: u8, b: u8) -> u64
+    ensures { λ r. ⌜ r ≡ lettersPair a b ⌝ }
+{
+    a as u64 * 256 + b as u64
+}
+
+// The letters of each call in ASCII, two as one number.
+fn mnemonic_of(letters: u64) -> Letters
+    ensures { λ r. ⌜ r ≡ mnemonicOf letters ⌝ }
+{
+    match letters {
+        0x4254 => return Letters::Known(Mnemonic::Bt),
+        0x5244 => return Letters::Known(Mnemonic::Rd),
+        0x5752 => return Letters::Known(Mnemonic::Wr),
+        0x4558 => return Letters::Known(Mnemonic::Ex),
+        0x4c4b => return Letters::Known(Mnemonic::Lk),
+        0x4352 => return Letters::Known(Mnemonic::Cr),
+        0x444c => return Letters::Known(Mnemonic::Dl),
+        0x4150 => return Letters::Known(Mnemonic::Ap),
+        0x4450 => return Letters::Known(Mnemonic::Dp),
+        0x5247 => return Letters::Known(Mnemonic::Rg),
+        0x494e => return Letters::Known(Mnemonic::In),
+        0x524d => return Letters::Known(Mnemonic::Rm),
+        0x4754 => return Letters::Known(Mnemonic::Gt),
+        0x4c4f => return Letters::Known(Mnemonic::Lo),
+        0x4341 => return Letters::Known(Mnemonic::Ca),
+        0x5254 => return Letters::Known(Mnemonic::Rt),
+        _ => return Letters::Unknown,
+    }
+}
+
+// The field of the call letters.
+pub fn letters_of(s: &[u8]) -> Letters
+    ensures { λ r. ⌜ r ≡ lettersOf (now (s .entry)) ⌝ }
+{
+    if s.len() != 2 {
+        return Letters::Unknown;
+    }
+    mnemonic_of(pair(s[0], s[1]))
 }
 
 // Where the first byte b from `from` on stands, or the end.

@@ -1,7 +1,8 @@
-// The call letters, with the arguments that each call takes.
+// The calls, each with the arguments that it takes.
 use crate::Eight;
 use crate::Homes;
 use crate::Line;
+use crate::Mnemonic;
 use calls::Access;
 use calls::Call;
 use calls::DomainCall;
@@ -9,28 +10,12 @@ use calls::Entries;
 use calls::ObjectCall;
 use calls::Presented;
 ghost use mathlib.Core.Path.{_≡_};
-ghost use Prim.Native.Nat.{_+_, _-_, _*_};
+ghost use Prim.Native.Nat.{_-_};
 ghost use Rattle.calls.specs.declared.Call.the-variants.{OnStore, OnObject, OnDomain};
 ghost use Rattle.calls.specs.declared.Access.the-variants.{Write, Lookup};
 ghost use Rattle.calls.specs.declared.ObjectCall.the-variants.{Create, AddPassword, DropPassword};
 ghost use Rattle.calls.specs.declared.DomainCall.the-variants.{Insert, PdxCall};
-ghost use Rattle.lines.specs.Grammar.{homesFrom, lettersOf, exactly as Grammar·exactly, atLeast, bootOf, registerOf, domainCallOf, objectCallOf, callOf};
-
-fn pair(a: u8, b: u8) -> u64
-    ensures { λ r. ⌜ r ≡ a * 256 + b ⌝ }
-{
-    a as u64 * 256 + b as u64
-}
-
-// Two letters as one number.
-pub fn letters_of(s: &[u8]) -> u64
-    ensures { λ r. ⌜ r ≡ lettersOf (now (s .entry)) ⌝ }
-{
-    if s.len() != 2 {
-        return 0;
-    }
-    pair(s[0], s[1])
-}
+ghost use Rattle.lines.specs.Grammar.{homesFrom, exactly as Grammar·exactly, atLeast, bootOf, registerOf, callOf};
 
 // The calls of several numbers, each as its fields.
 fn write(address: u64, value: u64) -> Access
@@ -171,46 +156,6 @@ fn register(n: usize, x: Eight) -> ObjectCall
     }
 }
 
-// The calls on domains, with n arguments, the first eight in x.
-fn domain_call(domain: u64, letters: u64, n: usize, x: Eight) -> Line
-    ensures { λ r. ⌜ r ≡ domainCallOf domain letters n x ⌝ }
-{
-    match letters {
-        // IN
-        0x494e => return on_domain(domain, n, 3, insert(x.0, x.1, x.2)),
-        // RM
-        0x524d => return on_domain(domain, n, 1, DomainCall::Remove { slot: x.0 }),
-        // GT
-        0x4754 => return on_domain(domain, n, 0, DomainCall::Get),
-        // LO
-        0x4c4f => return on_domain(domain, n, 1, DomainCall::Lock { slot: x.0 }),
-        // CA
-        0x4341 => return on_domain(domain, n, 2, pdx_call(x.0, x.1)),
-        // RT
-        0x5254 => return on_domain(domain, n, 0, DomainCall::PdxReturn),
-        _ => return Line::Unreadable,
-    }
-}
-
-// The calls on objects, else those on domains.
-fn object_call(domain: u64, letters: u64, n: usize, x: Eight) -> Line
-    ensures { λ r. ⌜ r ≡ objectCallOf domain letters n x ⌝ }
-{
-    match letters {
-        // CR
-        0x4352 => return on_object(domain, n, 3, create(x.0, x.1, x.2)),
-        // DL
-        0x444c => return on_object(domain, n, 1, ObjectCall::Delete { base: x.0 }),
-        // AP
-        0x4150 => return on_object(domain, n, 3, add_password(x.0, x.1, x.2)),
-        // DP
-        0x4450 => return on_object(domain, n, 2, drop_password(x.0, x.1)),
-        // RG
-        0x5247 => return at_least(domain, n, 4, register(n, x)),
-        _ => return domain_call(domain, letters, n, x),
-    }
-}
-
 fn home_passwords(x: Eight) -> Homes
     ensures { λ r. ⌜ r ≡ homesFrom x ⌝ }
 {
@@ -222,21 +167,26 @@ fn home_passwords(x: Eight) -> Homes
     }
 }
 
-// The call of these letters: a boot, an access, or one of the others.
-pub fn call_of(domain: u64, letters: u64, n: usize, x: Eight) -> Line
-    ensures { λ r. ⌜ r ≡ callOf domain letters n x ⌝ }
+// The call of these letters with n arguments, the first eight in x.
+pub fn call_of(domain: u64, mnemonic: Mnemonic, n: usize, x: Eight) -> Line
+    ensures { λ r. ⌜ r ≡ callOf domain mnemonic n x ⌝ }
 {
-    match letters {
-        // BT
-        0x4254 => return boot(domain, n, home_passwords(x)),
-        // RD
-        0x5244 => return on_store(domain, n, 1, Access::Read { address: x.0 }),
-        // WR
-        0x5752 => return on_store(domain, n, 2, write(x.0, x.1)),
-        // EX
-        0x4558 => return on_store(domain, n, 1, Access::Execute { address: x.0 }),
-        // LK
-        0x4c4b => return on_store(domain, n, 2, lookup(x.0, x.1)),
-        _ => return object_call(domain, letters, n, x),
+    match mnemonic {
+        Mnemonic::Bt => return boot(domain, n, home_passwords(x)),
+        Mnemonic::Rd => return on_store(domain, n, 1, Access::Read { address: x.0 }),
+        Mnemonic::Wr => return on_store(domain, n, 2, write(x.0, x.1)),
+        Mnemonic::Ex => return on_store(domain, n, 1, Access::Execute { address: x.0 }),
+        Mnemonic::Lk => return on_store(domain, n, 2, lookup(x.0, x.1)),
+        Mnemonic::Cr => return on_object(domain, n, 3, create(x.0, x.1, x.2)),
+        Mnemonic::Dl => return on_object(domain, n, 1, ObjectCall::Delete { base: x.0 }),
+        Mnemonic::Ap => return on_object(domain, n, 3, add_password(x.0, x.1, x.2)),
+        Mnemonic::Dp => return on_object(domain, n, 2, drop_password(x.0, x.1)),
+        Mnemonic::Rg => return at_least(domain, n, 4, register(n, x)),
+        Mnemonic::In => return on_domain(domain, n, 3, insert(x.0, x.1, x.2)),
+        Mnemonic::Rm => return on_domain(domain, n, 1, DomainCall::Remove { slot: x.0 }),
+        Mnemonic::Gt => return on_domain(domain, n, 0, DomainCall::Get),
+        Mnemonic::Lo => return on_domain(domain, n, 1, DomainCall::Lock { slot: x.0 }),
+        Mnemonic::Ca => return on_domain(domain, n, 2, pdx_call(x.0, x.1)),
+        Mnemonic::Rt => return on_domain(domain, n, 0, DomainCall::PdxReturn),
     }
 }

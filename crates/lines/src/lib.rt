@@ -1,9 +1,10 @@
 // Reading a line of the call program.
 use calls::Call;
+use fields::letters_of;
 use grammar::call_of;
-use grammar::letters_of;
 ghost use mathlib.Core.Path.{_≡_};
-ghost use Rattle.lines.specs.Arguments.{withNumber, eightOf, argumentsOf};
+ghost use Rattle.lines.specs.Arguments.{eightOf};
+ghost use Rattle.lines.specs.Taking.{withNumber, argumentsOf};
 ghost use Rattle.lines.specs.Grammar.{lineOf};
 
 mod fields;
@@ -17,6 +18,32 @@ pub enum Field {
     Empty,
     Number(u64),
     Bad,
+}
+
+// What the field of the call letters reads as.
+enum Letters {
+    Unknown,
+    Known(Mnemonic),
+}
+
+// The letters of each call.
+enum Mnemonic {
+    Bt,
+    Rd,
+    Wr,
+    Ex,
+    Lk,
+    Cr,
+    Dl,
+    Ap,
+    Dp,
+    Rg,
+    In,
+    Rm,
+    Gt,
+    Lo,
+    Ca,
+    Rt,
 }
 
 // A line as a domain and a call, or a boot with its home passwords.
@@ -92,9 +119,11 @@ pub fn read_line(s: &[u8]) -> Line
     }
     let from = d + 1;
     let e = find(s, from, 44);
-    let letters = letters_of(&s[from..e]);
+    let Letters::Known(mnemonic) = letters_of(&s[from..e]) else {
+        return Line::Unreadable;
+    };
     let Arguments::Numbers(n, x) = read_arguments(&s[e..]) else {
         return Line::Unreadable;
     };
-    call_of(domain, letters, n, x)
+    call_of(domain, mnemonic, n, x)
 }

@@ -20,9 +20,9 @@ use state::extents::lies_in;
 use state::objects::add_password;
 use state::objects::drop_password;
 use state::objects::free_object;
+use state::objects::free_password_place;
 use state::objects::has_password;
 use state::objects::new_object;
-use state::objects::place_of;
 use state::tables::object_based;
 ghost use mathlib.Core.Path.{_≡_};
 ghost use Prim.Native.Nat.{ℕ, _<_};
@@ -144,7 +144,7 @@ pub fn obj_passwd_add(
     if has_password(o, password) {
         return unaltered(t, Refusal::HasPassword);
     }
-    if 4 <= place_of(o, 0) {
+    if 4 <= free_password_place(o) {
         return unaltered(t, Refusal::Full);
     }
     becomes(t, base, add_password(o, password, mode as u8))

@@ -1,4 +1,4 @@
-// The calls on PDX procedures: RG in `register`, CA and RT here. CA and RT hand back their answer beside the caller's domain.
+// The calls into and out of a PDX procedure, CA and RT: each hands back its answer beside the caller's domain.
 use calls::Moved;
 use calls::Refusal;
 use calls::replies::moved;
@@ -27,8 +27,6 @@ ghost use Rattle.calls.specs.Arguments.{isEntry};
 ghost use Rattle.calls.specs.Changes.{entered};
 ghost use Rattle.calls.specs.Parts.{Moves};
 ghost use Rattle.calls.specs.declared.DomainCall.the-variants.{PdxCall, PdxReturn};
-
-pub mod register;
 
 // Whether the entry at a place does not stand, or is another address.
 fn entry_other(o: Object, address: u64, k: usize) -> bool

@@ -8,7 +8,7 @@ use native.Mathlib.Omega.{arith}
 use lib.Dec.{ltb, eqb}
 use borrow.Author.Tests.{lt-ltb, le-ltb, ltb-true, ltb-false}
 use Rattle.bounded.specs.Bools.{and-left, and-right}
-use Rattle.lines.specs.Number.{numberOf, after, isDigit, grown}
+use Rattle.lines.specs.Number.{fieldOf, after, isDigit, grown}
 use Rattle.lines.specs.Bytes.{digit-low, digit-high, bad-stays, first-digit, next-digit}
 use Rattle.lines.specs.declared.Field.the-variants.{Empty, Number, Bad}
 use Rattle.text.specs.Decimal.{digitsIn, decimal, decimal-small}
@@ -16,8 +16,8 @@ use Rattle.text.specs.Decimal.{digitsIn, decimal, decimal-small}
 digit-back : (d : ℕ) → 48 + d - 48 ≡ d
 digit-back d = omega arith
 
-reads-in : (k n : ℕ) → n < 10 ^ suc k → n < 2 ^ 64 → numberOf (digitsIn (suc k) n) ≡ Number n
-unfolding numberOf digitsIn
+reads-in : (k n : ℕ) → n < 10 ^ suc k → n < 2 ^ 64 → fieldOf (digitsIn (suc k) n) ≡ Number n
+unfolding fieldOf digitsIn
 reads-in zero n h w = rw (lt-ltb n 10 (omega arith)) (first-digit (48 + n) (omega arith) (omega arith) ∙ ap Number (digit-back n))
 reads-in (suc k) n h w = go (ltb n 10) refl (reads-in k)
   where
@@ -33,7 +33,7 @@ reads-in (suc k) n h w = go (ltb n 10) refl (reads-in k)
         ∙ rw (ih (n / 10) (omega arith) (omega arith)) (next-digit (n / 10) b (omega arith) (omega arith) (omega arith) (omega arith)) ∙ ap Number q
 
 -- the decimal digits of a number below 2^64 read back as that number
-pub reads-back : (n : ℕ) → n < 2 ^ 64 → numberOf (decimal n) ≡ Number n
+pub reads-back : (n : ℕ) → n < 2 ^ 64 → fieldOf (decimal n) ≡ Number n
 unfolding decimal
 reads-back n h = reads-in 19 n (omega arith) h
 
@@ -84,8 +84,8 @@ goes-on (b ∷ s) p v n w h = go (isDigit b) refl h (goes-on s)
     go true d k ih = go2 (not (eqb v 0) && ltb (v * 10 + (b - 48)) (2 ^ 64)) d refl k ih
 
 -- a field that reads as a number is its decimal digits, and the number is below 2^64
-pub only-digits : (s : List ℕ) (n : ℕ) → numberOf s ≡ Number n → (s ≡ decimal n) × (n < 2 ^ 64)
-unfolding numberOf
+pub only-digits : (s : List ℕ) (n : ℕ) → fieldOf s ≡ Number n → (s ≡ decimal n) × (n < 2 ^ 64)
+unfolding fieldOf
 only-digits [] n h = let z : _≡_ {A = ℕ} 0 1 = cc in absurd (omega arith)
 only-digits (b ∷ s) n h = go (isDigit b) refl h
   where

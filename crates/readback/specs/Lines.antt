@@ -10,10 +10,11 @@ use lib.Dec.{ltb, eqb}
 use lib.ListN.{length}
 use borrow.Author.Tests.{le-ltb, lt-ltb, ltb-true, ltb-false, ne-eqb}
 use Rattle.bounded.specs.Bools.{and-left, and-right, and-both}
-use Rattle.lines.specs.Number.{numberOf}
+use Rattle.lines.specs.Number.{fieldOf}
 use Rattle.lines.specs.Split.{split}
-use Rattle.lines.specs.Arguments.{inFront, numbersOf, eightOf}
-use Rattle.lines.specs.Grammar.{lettersOf, callOf, lineOf}
+use Rattle.lines.specs.Arguments.{inFront, numbersOf}
+use Rattle.lines.specs.Letters.{lettersOf}
+use Rattle.lines.specs.Grammar.{withArguments, lineOf}
 use Rattle.lines.specs.Joined.{behindCommas, split-joined, plain, allPlain, split-fields}
 use Rattle.lines.specs.declared.Field.{Field}
 use Rattle.lines.specs.declared.Field.the-variants.{Empty, Number, Bad}
@@ -62,7 +63,7 @@ written d letters vs = decimal d ++ behindCommas (letters ∷ map decimal vs)
 
 -- a written line of at most 200 bytes reads as the call of its letters with its arguments
 pub written-read : (d : ℕ) (letters vs : List ℕ) → d < 2 ^ 64 → plain letters ≡ true → words vs ≡ true → length (written d letters vs) ≤ 200
-    → lineOf (written d letters vs) ≡ callOf d (lettersOf letters) (length vs) (eightOf vs)
+    → lineOf (written d letters vs) ≡ withArguments d (lettersOf letters) (some vs)
 unfolding lineOf allPlain decimal
 written-read d letters vs h p w l =
     rw (le-ltb 200 (length (written d letters vs)) l, split-fields (letters ∷ map decimal vs) (decimal d) (digits-plain 20 d) (and-both p (decimals-plain vs)), reads-back d h, numbers-back vs w)
@@ -76,15 +77,15 @@ pub record Written (s : List ℕ) : Type 0 where
   pub small : domain < 2 ^ 64
   pub words-all : words arguments ≡ true
   pub text : s ≡ written domain letters arguments
-  pub reads : lineOf s ≡ callOf domain (lettersOf letters) (length arguments) (eightOf arguments)
+  pub reads : lineOf s ≡ withArguments domain (lettersOf letters) (some arguments)
 
 numbers-only : (fs : List (List ℕ)) (vs : List ℕ) → numbersOf fs ≡ some vs → (fs ≡ map decimal vs) × (words vs ≡ true)
 unfolding numbersOf words
 numbers-only [] [] h = (refl, refl)
 numbers-only [] (v ∷ vs) h = let z : _≡_ {A = ℕ} 0 1 = cc in absurd (omega arith)
-numbers-only (f ∷ fs) vs h = go (numberOf f) refl (numbersOf fs) refl vs h (numbers-only fs)
+numbers-only (f ∷ fs) vs h = go (fieldOf f) refl (numbersOf fs) refl vs h (numbers-only fs)
   where
-    go : (r : Field) → numberOf f ≡ r → (o : Option (List ℕ)) → numbersOf fs ≡ o → (ws : List ℕ) → inFront r o ≡ some ws
+    go : (r : Field) → fieldOf f ≡ r → (o : Option (List ℕ)) → numbersOf fs ≡ o → (ws : List ℕ) → inFront r o ≡ some ws
         → ((us : List ℕ) → numbersOf fs ≡ some us → (fs ≡ map decimal us) × (words us ≡ true)) → ((f ∷ fs) ≡ map decimal ws) × (words ws ≡ true)
     go Empty e o q ws k ih = let z : _≡_ {A = ℕ} 0 1 = cc in absurd (omega arith)
     go Bad e o q ws k ih = let z : _≡_ {A = ℕ} 0 1 = cc in absurd (omega arith)
@@ -100,7 +101,7 @@ pub readable-written : (s : List ℕ) → (lineOf s ≡ line.Unreadable) ⊎ Wri
 unfolding lineOf behindCommas
 readable-written s = by-length (ltb 200 (length s)) refl
   where
-    by-numbers : ltb 200 (length s) ≡ false → (d : ℕ) → numberOf (split s .first) ≡ Number d → (l : List ℕ) (fs : List (List ℕ)) → split s .others ≡ l ∷ fs
+    by-numbers : ltb 200 (length s) ≡ false → (d : ℕ) → fieldOf (split s .first) ≡ Number d → (l : List ℕ) (fs : List (List ℕ)) → split s .others ≡ l ∷ fs
         → (o : Option (List ℕ)) → numbersOf fs ≡ o → (lineOf s ≡ line.Unreadable) ⊎ Written s
     by-numbers h d e l fs q none k = inl (rw (h, e, q, k))
     by-numbers h d e l fs q (some vs) k =
@@ -118,7 +119,7 @@ readable-written s = by-length (ltb 200 (length s)) refl
           reads = rw (h, e, q, k);
         })
 
-    by-fields : ltb 200 (length s) ≡ false → (f : Field) → numberOf (split s .first) ≡ f → (fs : List (List ℕ)) → split s .others ≡ fs
+    by-fields : ltb 200 (length s) ≡ false → (f : Field) → fieldOf (split s .first) ≡ f → (fs : List (List ℕ)) → split s .others ≡ fs
         → (lineOf s ≡ line.Unreadable) ⊎ Written s
     by-fields h Empty e fs q = inl (rw (h, e))
     by-fields h Bad e fs q = inl (rw (h, e))
@@ -127,4 +128,4 @@ readable-written s = by-length (ltb 200 (length s)) refl
 
     by-length : (t : Bool) → ltb 200 (length s) ≡ t → (lineOf s ≡ line.Unreadable) ⊎ Written s
     by-length true h = inl (rw h)
-    by-length false h = by-fields h (numberOf (split s .first)) refl (split s .others) refl
+    by-length false h = by-fields h (fieldOf (split s .first)) refl (split s .others) refl

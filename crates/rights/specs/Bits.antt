@@ -71,16 +71,16 @@ some-bit = bin-ind (λ (n : ℕ). (n ≡ 0 → ⊥) → (k : ℕ) × (bit k n �
 
 -- the mode holds all of the set: each right of the set is in the mode
 pub all-exactly : (m w : ℕ) → holdsAll m w ≡ true ↔ ((k : ℕ) → bit k w ≡ 1 → bit k m ≡ 1)
-all-exactly m w = (each, λ h. eq-eqb _ _ (bit-ext _ _ (λ k. bit-and k m w ∙ kept h k (zero-or-one k w))))
+all-exactly m w = (each, λ h. eq-eqb _ _ (bit-ext _ _ (λ k. bit-and k m w ∙ same-bit h k (zero-or-one k w))))
   where
     each : holdsAll m w ≡ true → (k : ℕ) → bit k w ≡ 1 → bit k m ≡ 1
     each h k e =
         let a : bit k (bitAnd m w) ≡ bit k w = ap (bit k) (eqb-true _ _ h) in
         omega (arith, bit-and k m w, bit-lt k m)
 
-    kept : ((k : ℕ) → bit k w ≡ 1 → bit k m ≡ 1) → (k : ℕ) → (bit k w ≡ 0) ⊎ (bit k w ≡ 1) → min (bit k m) (bit k w) ≡ bit k w
-    kept h k (inl z) = omega arith
-    kept h k (inr o) = omega (arith, h k o)
+    same-bit : ((k : ℕ) → bit k w ≡ 1 → bit k m ≡ 1) → (k : ℕ) → (bit k w ≡ 0) ⊎ (bit k w ≡ 1) → min (bit k m) (bit k w) ≡ bit k w
+    same-bit h k (inl z) = omega arith
+    same-bit h k (inr o) = omega (arith, h k o)
 
 -- where the mode holds none of the set, no bit is in both
 both-zero : (k m w : ℕ) → bitAnd m w ≡ 0 → min (bit k m) (bit k w) ≡ 0

@@ -1,6 +1,5 @@
 // What a test of soundness costs: two states tested in turn, 1,000 times in all, and how many tests passed. The state is
-// picked by number, so that no test can be done once for all. The instructions of a test are the total of
-// `valgrind --tool=callgrind --callgrind-out-file=/dev/null target/bin/sound_cost`, divided by 1,000.
+// picked by number, so that no test can be done once for all. `make bench` counts the instructions.
 ghost use Prim.Native.Nat.{_<_, _≤_};
 use libc::STDOUT_FILENO;
 use soundness::sound;
@@ -65,14 +64,13 @@ fn example(word: u64) -> State {
     let t = s.table;
     let e = t.estates[0];
     let m = s.domains[0];
-    s = with_estate(s, 0, filled(e, 0, word));
-    s = with_estate(s, 1, filled(e, 32, word));
-    s = with_estate(s, 2, filled(e, 64, word));
-    s = with_estate(s, 3, filled(e, 96, word));
-    s = with_domain(s, 0, slotted(m, 0, word));
-    s = with_domain(s, 1, slotted(m, 32, word));
-    s = with_domain(s, 2, slotted(m, 64, word));
-    with_domain(s, 3, slotted(m, 96, word))
+    let mut d = 0u8;
+    while d < 4 {
+        s = with_estate(s, d as usize, filled(e, 32 * d, word));
+        s = with_domain(s, d as usize, slotted(m, 32 * d, word));
+        d += 1;
+    }
+    s
 }
 
 // 1 for a test that passed.

@@ -42,9 +42,13 @@ objectBased t page = based (estateOf t page) page
 unfoldable pub freePlace : Estate → ℕ
 freePlace e = placeWhere free e
 
--- the place of a word among the ordinary passwords, 4 where it is none of them; at the word 0 the first free place
+-- the place of a word among the ordinary passwords, 4 where it is none of them
 unfoldable pub placeOf : Object → ℕ → ℕ
 placeOf o word = first (λ k. eqb (passwordAt o k .word) word) (λ k. k) 4 0 4
+
+-- the first free place for a password, one with the word 0; 4 where there is none
+abbrev pub freePasswordPlace : Object → ℕ
+freePasswordPlace o = placeOf o 0
 
 -- the mode that a password has as an ordinary one, 0 where it is none; the word 0 is no password
 unfoldable pub ordinaryMode : Object → ℕ → ℕ

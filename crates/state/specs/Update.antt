@@ -6,7 +6,7 @@ use lib.Dec.{leb, ltb, eqb}
 use lib.ListN.{set, replicate}
 use Rattle.bounded.specs.Fill.{tabulate}
 use Rattle.state.specs.Places.{noCapability, noPassword, freeRegistration, slotAt, savedAt}
-use Rattle.state.specs.Lookup.{placeOf}
+use Rattle.state.specs.Lookup.{placeOf, freePasswordPlace}
 use Rattle.state.specs.declared.Capability.{Capability}
 use Rattle.state.specs.declared.Password.{Password}
 use Rattle.state.specs.declared.Registration.{Registration}
@@ -80,7 +80,7 @@ withRegistration o g = record { base = o .base; pages = o .pages; passwords = o 
 
 -- a password more, at the first free place: the choice of place is the program's
 unfoldable pub addPassword : Object → ℕ → ℕ → Object
-addPassword o word mode = withPasswords o (set (o .passwords) (placeOf o 0) (record { word = word; mode = mode }))
+addPassword o word mode = withPasswords o (set (o .passwords) (freePasswordPlace o) (record { word = word; mode = mode }))
 
 -- DP: an ordinary password goes, or the whole registration whose password it is
 unfoldable pub dropPassword : Object → ℕ → Object

@@ -6,7 +6,7 @@ use crate::Registration;
 ghost use lib.ListN.{set};
 ghost use mathlib.Core.Path.{_≡_};
 ghost use Rattle.state.specs.Places.{freeRegistration, freeObject};
-ghost use Rattle.state.specs.Lookup.{hasBase, placeOf, ordinaryMode, modeOf, hasPassword};
+ghost use Rattle.state.specs.Lookup.{hasBase, placeOf, freePasswordPlace, ordinaryMode, modeOf, hasPassword};
 ghost use Rattle.state.specs.Update.{newObject, withPasswords, addPassword, dropPassword, withRegistration};
 
 // Whether the object stands and has the base.
@@ -37,6 +37,13 @@ pub fn place_of(o: Object, word: u64) -> usize
         return 3;
     }
     4
+}
+
+// The first free place for a password, 4 where there is none.
+pub fn free_password_place(o: Object) -> usize
+    ensures { λ r. ⌜ r ≡ freePasswordPlace o ⌝ }
+{
+    place_of(o, 0)
 }
 
 // The mode that a password has as an ordinary one of the object, 0 where it is none.
@@ -151,7 +158,7 @@ pub fn add_password(o: Object, word: u64, mode: u8) -> Object
 {
     with_password(
         o,
-        place_of(o, 0),
+        free_password_place(o),
         Password {
             word: word,
             mode: mode,

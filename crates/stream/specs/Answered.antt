@@ -1,18 +1,21 @@
--- A line answered, of whatever kind: the run goes on by it.
-use Prim.Native.Nat.{ℕ, _+_, _-_}
-use mathlib.Core.Path.{_≡_, refl, ap, sym}
+-- A line answered, of whatever kind: the progress goes on by it.
+use Prim.Native.Nat.{ℕ, _+_, _-_, _≤_}
+use mathlib.Core.Path.{_≡_, refl, ap, sym, _∙_}
 use mathlib.Core.List.{List, [], foldl}
+use native.Mathlib.Omega.{arith}
 use lib.ListN.{length, take, drop}
+use Rattle.state.specs.declared.State.{State}
+use Rattle.calls.specs.Step.{world, unchecked}
 use Rattle.calls.specs.View.{World}
 use Rattle.lines.specs.Grammar.{lineOf}
 use Rattle.lines.specs.Until.{until}
 use Rattle.lines.specs.declared.Line.{Line}
-use Rattle.stream.specs.Run.{Carrying, Run, reply, nextNumber}
-use Rattle.stream.specs.Feed.{told}
+use Rattle.stream.specs.Run.{Carrying, Progress, reply, nextNumber}
+use Rattle.stream.specs.Feed.{progressAt, told, heldByte}
 use Rattle.stream.specs.Feeding.{Fed, fed-part, fed-line, at-feed}
 use Rattle.stream.specs.Room.{shorter}
 
-module _ (carry : Carrying) (more : List ℕ → ℕ → List ℕ) {a : Run} {piece : List ℕ} {from end : ℕ} {w : World} {number : ℕ} (line out : List ℕ) (at : ℕ) where
+module _ (carry : Carrying) (more : List ℕ → ℕ → List ℕ) {a : Progress} {piece : List ℕ} {from end : ℕ} {w : World} {number : ℕ} (line out : List ℕ) (at : ℕ) where
   -- the piece is taken behind the line feed, and the line's answer stands in the buffer
   pub fed-told : {reading : Line} {w′ : World} {number′ : ℕ} (out′ : List ℕ) (at′ : ℕ)
       → Fed carry more a piece from (record { world = w; number = number; line = line; text = take at out }) → end ≡ from + until 10 (drop from piece)
@@ -23,3 +26,29 @@ module _ (carry : Carrying) (more : List ℕ → ℕ → List ℕ) {a : Run} {pi
       let p = fed-part carry more f to refl in
       let l = shorter ne (p .bound) in
       fed-line carry more p l (at-feed carry more f to l) (ap (reply carry w) (sym e)) n (t .0) (t .1)
+
+-- where the program stands at byte `from` of a piece, with a store of n words and a buffer of `size` bytes
+pub record Stands (a : Progress) (piece : List ℕ) (n size : ℕ) (s : State) (words : List ℕ) (number : ℕ) (line : List ℕ) (held : ℕ) (out : List ℕ) (at from : ℕ) : Type 0 where
+  pub fed : Fed unchecked heldByte a piece from (progressAt s words number line held out at)
+  pub few : held ≤ 201
+  pub hold : length line ≡ 201
+  pub buffer : length out ≡ size
+  pub store : length words ≡ n
+  pub within : at ≤ length out
+
+-- and behind a line that is answered there, of whatever kind
+pub stands-told : {a : Progress} {piece : List ℕ} {n size : ℕ} {s : State} {words : List ℕ} {number : ℕ} {line : List ℕ} {held : ℕ} {out : List ℕ} {at from end : ℕ}
+    {reading l : Line} {number′ : ℕ} {line′ : List ℕ} {s′ : State} {words′ out′ : List ℕ} {at′ : ℕ}
+    → Stands a piece n size s words number line held out at from → end ≡ from + until 10 (drop from piece) → (end ≡ length piece → ⊥)
+    → reading ≡ lineOf (foldl heldByte (take held line) (take (end - from) (drop from piece))) → number′ ≡ nextNumber number → length line′ ≡ length line
+    → reading ≡ l → told number out at out′ at′ (world s′ words′) (reply unchecked (world s words) l) → length words′ ≡ length words → length out′ ≡ length out
+    → Stands a piece n size s′ words′ number′ line′ 0 out′ at′ (end + 1)
+stands-told {line = line} {held = held} {out = out} {at = at} {out′ = out′} {at′ = at′} v to ne e m k q t w o =
+    record {
+      fed = fed-told unchecked heldByte (take held line) out at out′ at′ (v .fed) to ne (sym q ∙ e) m t;
+      few = omega arith;
+      hold = k ∙ v .hold;
+      buffer = o ∙ v .buffer;
+      store = w ∙ v .store;
+      within = omega (arith, t .2, o);
+    }

@@ -12,11 +12,11 @@ use Rattle.calls.specs.View.{World}
 use Rattle.lines.specs.Grammar.{lineOf}
 use Rattle.lines.specs.Until.{until, until-at, until-within}
 use Rattle.text.specs.Answer.{answerLine}
-use Rattle.stream.specs.Run.{Carrying, Reply, Run, reply, nextNumber, lineDone, withLine, onByteBy}
+use Rattle.stream.specs.Run.{Carrying, Reply, Progress, reply, nextNumber, lineDone, withLine, onByteBy}
 
 -- the bytes before a line feed are more of the line
 module _ (carry : Carrying) (more : List ℕ → ℕ → List ℕ) where
-  pub before-feed : (s : List ℕ) (r : Run)
+  pub before-feed : (s : List ℕ) (r : Progress)
       → foldl (onByteBy carry more) r (take (until 10 s) s) ≡ withLine r (foldl more (r .line) (take (until 10 s) s))
   unfolding until onByteBy
   before-feed [] r = refl
@@ -28,18 +28,18 @@ module _ (carry : Carrying) (more : List ℕ → ℕ → List ℕ) where
       go true e ih = refl
       go false e ih =
           let q : onByteBy carry more r b ≡ withLine r (more (r .line) b) = rw e in
-          ap (λ (z : Run). foldl (onByteBy carry more) z (take (until 10 s) s)) q ∙ ih
+          ap (λ (z : Progress). foldl (onByteBy carry more) z (take (until 10 s) s)) q ∙ ih
 
-  -- the run r is what the first bytes of the piece make of the run a
-  pub record Fed (a : Run) (piece : List ℕ) (from : ℕ) (r : Run) : Type 0 where
+  -- the progress r is what the first bytes of the piece make of the progress a
+  pub record Fed (a : Progress) (piece : List ℕ) (from : ℕ) (r : Progress) : Type 0 where
     pub bound : from ≤ length piece
     pub done : r ≡ foldl (onByteBy carry more) a (take from piece)
 
-  module _ {a : Run} {piece : List ℕ} where
+  module _ {a : Progress} {piece : List ℕ} where
     pub fed-none : Fed a piece 0 a
     fed-none = record { bound = omega arith; done = refl }
 
-    module _ {from end : ℕ} {r : Run} (f : Fed a piece from r) (to : end ≡ from + until 10 (drop from piece)) where
+    module _ {from end : ℕ} {r : Progress} (f : Fed a piece from r) (to : end ≡ from + until 10 (drop from piece)) where
       -- up to a line feed, or to the end of the piece
       pub fed-part : {line : List ℕ} → line ≡ foldl more (r .line) (take (end - from) (drop from piece)) → Fed a piece end (withLine r line)
       fed-part {line} q =
@@ -50,7 +50,7 @@ module _ (carry : Carrying) (more : List ℕ → ℕ → List ℕ) where
             done =
                 ap (withLine r) p
                 ∙ sym (before-feed (drop from piece) r)
-                ∙ ap (λ (z : Run). foldl (onByteBy carry more) z (take (until 10 (drop from piece)) (drop from piece))) (f .done)
+                ∙ ap (λ (z : Progress). foldl (onByteBy carry more) z (take (until 10 (drop from piece)) (drop from piece))) (f .done)
                 ∙ sym (foldl-append (onByteBy carry more) a (take from piece) (take (until 10 (drop from piece)) (drop from piece)))
                 ∙ ap (λ (z : List ℕ). foldl (onByteBy carry more) a z) (sym (take-add from (until 10 (drop from piece)) piece))
                 ∙ ap (λ (z : ℕ). foldl (onByteBy carry more) a (take z piece)) (sym to);
@@ -64,7 +64,7 @@ module _ (carry : Carrying) (more : List ℕ → ℕ → List ℕ) where
           ap (λ (z : ℕ). getD piece z 0) to ∙ sym (getD-drop from piece (until 10 (drop from piece)) 0) ∙ until-at 10 (drop from piece) l
 
     -- a line feed more: the line is answered
-    pub fed-line : {end : ℕ} {r : Run} {answer : Reply} {world : World} {number : ℕ} {text : List ℕ} → Fed a piece end r → end < length piece → getD piece end 0 ≡ 10
+    pub fed-line : {end : ℕ} {r : Progress} {answer : Reply} {world : World} {number : ℕ} {text : List ℕ} → Fed a piece end r → end < length piece → getD piece end 0 ≡ 10
         → reply carry (r .world) (lineOf (r .line)) ≡ answer → number ≡ nextNumber (r .number)
         → text ≡ r .text ++ answerLine (r .number) (answer .number) (answer .values) → world ≡ answer .world
         → Fed a piece (end + 1) (record { world = world; number = number; line = []; text = text })
@@ -74,7 +74,7 @@ module _ (carry : Carrying) (more : List ℕ → ℕ → List ℕ) where
         record {
           bound = omega arith;
           done =
-              q ∙ ap (λ (z : Run). onByteBy carry more z 10) (f .done)
+              q ∙ ap (λ (z : Progress). onByteBy carry more z 10) (f .done)
               ∙ ap (λ (z : ℕ). onByteBy carry more (foldl (onByteBy carry more) a (take end piece)) z) (sym b)
               ∙ fold-more (onByteBy carry more) a piece end h;
         }

@@ -10,18 +10,8 @@ use lib.ListN.{length, take, set, length-append, length-take}
 use lib.Seq.{take-all, take-append-le, take-suc-set, length-take-le}
 use borrow.Author.Tests.{lt-ltb, le-ltb, ltb-true, ltb-false, eq-eqb, ne-eqb, eqb-true, eqb-false}
 use Rattle.lines.specs.Grammar.{lineOf}
-use Rattle.stream.specs.Run.{Carrying, Run, reply, lineDone, withLine, onByteBy, extended, lastLine}
-
--- one byte more, 201 at most
-abbrev pub heldByte : List ℕ → ℕ → List ℕ
-heldByte line b = cond (ltb (length line) 201) (line ++ (b ∷ [])) line
-
-abbrev pub onHeld : Carrying → Run → ℕ → Run
-onHeld carry = onByteBy carry heldByte
-
--- a run with the first 201 bytes of its line
-abbrev pub cut : Run → Run
-cut r = withLine r (take 201 (r .line))
+use Rattle.stream.specs.Run.{Carrying, Progress, reply, lineDone, withLine, onByteBy, extended, lastLine}
+use Rattle.stream.specs.Feed.{heldByte, onHeld, cut}
 
 -- a line reads as its first 201 bytes do
 pub cut-reads : (s : List ℕ) → lineOf (take 201 s) ≡ lineOf s
@@ -59,7 +49,7 @@ pub whole-reads : (s : List ℕ) → lineOf s ≡ lineOf (foldl heldByte [] s)
 whole-reads s = sym (cut-reads s) ∙ ap lineOf (sym (held-fold s []))
 
 module _ (carry : Carrying) where
-  pub cut-byte : (r : Run) (b : ℕ) → onHeld carry (cut r) b ≡ cut (onByteBy carry extended r b)
+  pub cut-byte : (r : Progress) (b : ℕ) → onHeld carry (cut r) b ≡ cut (onByteBy carry extended r b)
   unfolding onByteBy
   cut-byte r b = go (eqb b 10)
     where
@@ -69,9 +59,9 @@ module _ (carry : Carrying) where
       go true = rw (cut-reads (r .line))
       go false = ap (withLine r) (held-cut (r .line) b)
 
-  pub cut-run : (s : List ℕ) (r : Run) → foldl (onHeld carry) (cut r) s ≡ cut (foldl (onByteBy carry extended) r s)
+  pub cut-run : (s : List ℕ) (r : Progress) → foldl (onHeld carry) (cut r) s ≡ cut (foldl (onByteBy carry extended) r s)
   cut-run [] r = refl
-  cut-run (b ∷ s) r = ap (λ (z : Run). foldl (onHeld carry) z s) (cut-byte r b) ∙ cut-run s (onByteBy carry extended r b)
+  cut-run (b ∷ s) r = ap (λ (z : Progress). foldl (onHeld carry) z s) (cut-byte r b) ∙ cut-run s (onByteBy carry extended r b)
 
 -- whether a line has begun is seen in what is held
 cut-empty : (s : List ℕ) → eqb (length (take 201 s)) 0 ≡ eqb (length s) 0
@@ -86,7 +76,7 @@ cut-empty s = go (eqb (length s) 0) refl
         let z : length s ≡ 0 → ⊥ = eqb-false _ _ e in
         ne-eqb (length (take 201 s)) 0 (λ n. z (omega (arith, n, length-take 201 s)))
 
-pub cut-last : (r : Run) → lastLine (cut r) ≡ lastLine r
+pub cut-last : (r : Progress) → lastLine (cut r) ≡ lastLine r
 unfolding lastLine
 cut-last r = rw (cut-empty (r .line))
 

@@ -9,3 +9,4 @@ pub mod Kinds
 pub mod Room
 pub mod Answered
 pub mod Turns
+pub mod Reached

@@ -19,9 +19,10 @@ use Rattle.calls.specs.declared.Answer.the-variants.{Done, Refused}
 use Rattle.lines.specs.Grammar.{lineOf}
 use Rattle.lines.specs.declared.Line.{Line}
 use Rattle.lines.specs.declared.Line.the-variants.{Unreadable, Boot, Call}
-use Rattle.stream.specs.Run.{Run, called, reply, homesOf, stateAfter, lineDone, withLine, onByteBy, extended, header, started, lastLine, output}
-use Rattle.stream.specs.Held.{heldByte, onHeld, cut, cut-run, cut-last}
-use Rattle.stream.specs.Pieces.{joined, writtenFor, pieces-whole}
+use Rattle.stream.specs.Run.{Progress, called, reply, homesOf, stateAfter, lineDone, withLine, onByteBy, extended, header, started, lastLine, output}
+use Rattle.stream.specs.Feed.{heldByte, onHeld, cut, joined}
+use Rattle.stream.specs.Held.{cut-run, cut-last}
+use Rattle.stream.specs.Pieces.{writtenFor, pieces-whole}
 
 -- a sound state passes check 3
 admits : (w : World) → sound (w .state) ≡ true → admitted w ≡ true
@@ -47,11 +48,11 @@ reply-sound w (Boot d homes) h = go (boot (w .words) d (homesOf homes) .outcome 
 reply-sound w (Call d c) h = step-sound w d c h
 
 module _ (more : List ℕ → ℕ → List ℕ) where
-  byte-unchecked : (r : Run) (b : ℕ) → sound (r .world .state) ≡ true → onByteBy unchecked more r b ≡ onByteBy step more r b
+  byte-unchecked : (r : Progress) (b : ℕ) → sound (r .world .state) ≡ true → onByteBy unchecked more r b ≡ onByteBy step more r b
   unfolding onByteBy
   byte-unchecked r b h = rw (reply-unchecked (r .world) (lineOf (r .line)) h)
 
-  byte-sound : (r : Run) (b : ℕ) → sound (r .world .state) ≡ true → sound (onByteBy step more r b .world .state) ≡ true
+  byte-sound : (r : Progress) (b : ℕ) → sound (r .world .state) ≡ true → sound (onByteBy step more r b .world .state) ≡ true
   unfolding onByteBy
   byte-sound r b h = go (eqb b 10)
     where
@@ -60,10 +61,10 @@ module _ (more : List ℕ → ℕ → List ℕ) where
       go false = h
 
   -- check 3 may be left out from a sound state on
-  pub run-unchecked : (s : List ℕ) (r : Run) → sound (r .world .state) ≡ true → foldl (onByteBy unchecked more) r s ≡ foldl (onByteBy step more) r s
+  pub run-unchecked : (s : List ℕ) (r : Progress) → sound (r .world .state) ≡ true → foldl (onByteBy unchecked more) r s ≡ foldl (onByteBy step more) r s
   run-unchecked [] r h = refl
   run-unchecked (b ∷ s) r h =
-      ap (λ (z : Run). foldl (onByteBy unchecked more) z s) (byte-unchecked r b h) ∙ run-unchecked s (onByteBy step more r b) (byte-sound r b h)
+      ap (λ (z : Progress). foldl (onByteBy unchecked more) z s) (byte-unchecked r b h) ∙ run-unchecked s (onByteBy step more r b) (byte-sound r b h)
 
 started-sound : sound (started .world .state) ≡ true
 unfolding started
@@ -76,7 +77,7 @@ started-cut = refl
 -- the run of the program, cut at 201 bytes a line and without check 3
 program-run : (s : List ℕ) → foldl (onHeld unchecked) started s ≡ cut (foldl (onByteBy step extended) started s)
 program-run s =
-    ap (λ (z : Run). foldl (onHeld unchecked) z s) (sym started-cut)
+    ap (λ (z : Progress). foldl (onHeld unchecked) z s) (sym started-cut)
     ∙ cut-run unchecked s started
     ∙ ap cut (run-unchecked extended s started started-sound)
 
@@ -90,5 +91,5 @@ unfolding output
 program-writes ps =
     ap (λ (z : List ℕ). z ++ writtenFor unchecked heldByte started ps) (sym started-text)
     ∙ pieces-whole unchecked heldByte ps started
-    ∙ ap (λ (z : Run). z .text ++ lastLine z) (program-run (joined ps))
+    ∙ ap (λ (z : Progress). z .text ++ lastLine z) (program-run (joined ps))
     ∙ ap (λ (z : List ℕ). foldl (onByteBy step extended) started (joined ps) .text ++ z) (cut-last (foldl (onByteBy step extended) started (joined ps)))

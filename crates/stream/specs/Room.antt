@@ -11,9 +11,8 @@ use borrow.Author.Tests.{le-leb, lt-leb, leb-true, leb-false, ltb-true, ltb-fals
 use Rattle.bounded.specs.Bools.{and-left, and-right, or-left, or-unless}
 use Rattle.state.specs.declared.State.{State}
 use Rattle.calls.specs.Step.{unchecked}
-use Rattle.stream.specs.Run.{Run}
-use Rattle.stream.specs.Held.{onHeld}
-use Rattle.stream.specs.Feed.{runAt, runOf, roomFor, stopped}
+use Rattle.stream.specs.Run.{Progress}
+use Rattle.stream.specs.Feed.{progressAt, progressOf, roomFor, stopped, onHeld}
 use Rattle.stream.specs.declared.Feed.{Feed}
 
 pub room-short : (length at : ℕ) → length < 273 → false ≡ roomFor length at
@@ -49,9 +48,9 @@ take-clip s n = go (leb n (length s)) refl
         rw m (take-all (length s) s (omega arith) ∙ sym (take-all n s (omega arith)))
 
 -- what is held and what is written, clipped to their room, is what they were
-pub clip-run : (s : State) (words : List ℕ) (number : ℕ) (line : List ℕ) (held : ℕ) (out : List ℕ) (at : ℕ) {held′ at′ : ℕ} → length line ≡ 201 → held′ ≡ min held 201 → at′ ≡ min at (length out)
-    → runAt s words number line held′ out at′ ≡ runAt s words number line held out at
-clip-run s words number line held out at {held′} {at′} l h a =
+pub clip-progress : (s : State) (words : List ℕ) (number : ℕ) (line : List ℕ) (held : ℕ) (out : List ℕ) (at : ℕ) {held′ at′ : ℕ} → length line ≡ 201 → held′ ≡ min held 201 → at′ ≡ min at (length out)
+    → progressAt s words number line held′ out at′ ≡ progressAt s words number line held out at
+clip-progress s words number line held out at {held′} {at′} l h a =
     let e : take held′ line ≡ take held line = rw (h, ← l) (take-clip line held) in
     let g : take at′ out ≡ take at out = rw a (take-clip out at) in
     rw (e, g)
@@ -78,14 +77,14 @@ pub still-room : (from piece out at : ℕ) (room : Bool) → (ltb from piece && 
 still-room from piece out at room h e = leb-true (at + 273) out (sym e ∙ and-right (ltb from piece) room h)
 
 -- with an empty buffer of room enough, some of a piece is taken
-pub feed-moves : (before : Run) (piece : List ℕ) (size : ℕ) (r : Feed) (words out : List ℕ) → before .text ≡ [] → 273 ≤ size → 0 < length piece
-    → runOf r words out ≡ foldl (onHeld unchecked) before (take (r .taken) piece) → length out ≡ size → r .at ≤ size
+pub feed-moves : (before : Progress) (piece : List ℕ) (size : ℕ) (r : Feed) (words out : List ℕ) → before .text ≡ [] → 273 ≤ size → 0 < length piece
+    → progressOf r words out ≡ foldl (onHeld unchecked) before (take (r .taken) piece) → length out ≡ size → r .at ≤ size
     → stopped (length piece) size (r .taken) (r .at) ≡ true → 0 < r .taken
 feed-moves before piece size r words out z h l e k b s = go (r .taken) refl
   where
     go : (n : ℕ) → r .taken ≡ n → 0 < r .taken
     go zero t =
-        let x : take (r .at) out ≡ before .text = rw t at (ap (λ (y : Run). y .text) e) in
+        let x : take (r .at) out ≡ before .text = rw t at (ap (λ (y : Progress). y .text) e) in
         let y : length (take (r .at) out) ≡ 0 = ap length (x ∙ z) in
         let m : r .at ≡ 0 = omega (arith, y, length-take (r .at) out) in
         let g : roomFor size (r .at) ≡ true = rw m (le-leb 273 size h) in

@@ -63,7 +63,7 @@ reply carry w (Boot d homes) = bootReply w d homes
 reply carry w (Call d c) = called (carry w d c)
 
 -- the program between two bytes: the number of the line that it reads, the bytes of that line so far, and what it wrote
-pub record Run : Type 0 where
+pub record Progress : Type 0 where
   pub world : World
   pub number : ℕ
   pub line : List ℕ
@@ -74,7 +74,7 @@ abbrev pub nextNumber : ℕ → ℕ
 nextNumber n = cond (ltb n 18446744073709551615) (n + 1) n
 
 -- a line is answered, and the next one begins
-abbrev pub lineDone : Run → Reply → Run
+abbrev pub lineDone : Progress → Reply → Progress
 lineDone r a =
     record {
       world = a .world;
@@ -83,17 +83,17 @@ lineDone r a =
       text = r .text ++ answerLine (r .number) (a .number) (a .values);
     }
 
-abbrev pub withLine : Run → List ℕ → Run
+abbrev pub withLine : Progress → List ℕ → Progress
 withLine r line = record { world = r .world; number = r .number; line = line; text = r .text }
 
 -- a byte of the input: a line feed ends the line, any other byte is `more` of it
-unfoldable pub onByteBy : Carrying → (List ℕ → ℕ → List ℕ) → Run → ℕ → Run
+unfoldable pub onByteBy : Carrying → (List ℕ → ℕ → List ℕ) → Progress → ℕ → Progress
 onByteBy carry more r b = cond (eqb b 10) (lineDone r (reply carry (r .world) (lineOf (r .line)))) (withLine r (more (r .line) b))
 
 abbrev pub extended : List ℕ → ℕ → List ℕ
 extended line b = line ++ (b ∷ [])
 
-abbrev pub onByte : Run → ℕ → Run
+abbrev pub onByte : Progress → ℕ → Progress
 onByte = onByteBy step extended
 
 -- line,answer,value and the line feed
@@ -101,11 +101,11 @@ abbrev pub header : List ℕ
 header = 108 ∷ 105 ∷ 110 ∷ 101 ∷ 44 ∷ 97 ∷ 110 ∷ 115 ∷ 119 ∷ 101 ∷ 114 ∷ 44 ∷ 118 ∷ 97 ∷ 108 ∷ 117 ∷ 101 ∷ 10 ∷ []
 
 -- at first: no object, a store of zeros, line 1, and the header written
-unfoldable pub started : Run
+unfoldable pub started : Progress
 started = record { world = world emptyState (replicate 8192 0); number = 1; line = []; text = header }
 
 -- what is written behind the last line feed: answer 1 to a line that has begun there
-unfoldable pub lastLine : Run → List ℕ
+unfoldable pub lastLine : Progress → List ℕ
 lastLine r = cond (eqb (length (r .line)) 0) [] (answerLine (r .number) 1 (0 ∷ []))
 
 -- WHAT THE PROGRAM WRITES

@@ -9,22 +9,21 @@ use lib.Dec.{eqb}
 use borrow.Author.Tests.{eq-eqb, ne-eqb, eqb-true, eqb-false}
 use Rattle.calls.specs.Step.{unchecked}
 use Rattle.text.specs.Answer.{answerLine, printed, printedEnd}
-use Rattle.stream.specs.Run.{Run, header, started, lastLine, output}
-use Rattle.stream.specs.Held.{heldByte, onHeld}
-use Rattle.stream.specs.Pieces.{joined, writtenFor, written-flushed, flushed}
+use Rattle.stream.specs.Run.{Progress, header, started, lastLine, output}
+use Rattle.stream.specs.Pieces.{writtenFor, written-flushed}
 use Rattle.stream.specs.Program.{program-writes}
-use Rattle.stream.specs.Feed.{startFeed, runOf, finishedText, finishedEnd}
+use Rattle.stream.specs.Feed.{startFeed, progressOf, finishedText, finishedEnd, heldByte, flushed, joined, Turns, finish, turn}
 use Rattle.stream.specs.Told.{told-text}
 use Rattle.stream.specs.declared.Feed.{Feed}
 
--- the program starts as the run does, with the header written
-pub start-run : (out : List ℕ) → runOf startFeed (replicate 8192 0) out ≡ flushed started
+-- the program starts where the definition does, with the header written
+pub start-progress : (out : List ℕ) → progressOf startFeed (replicate 8192 0) out ≡ flushed started
 unfolding started
-start-run out = refl
+start-progress out = refl
 
--- and writes the last line as the run does
+-- and writes the last line as it does
 pub finish-writes : (f : Feed) (words out : List ℕ) → length (f .line) ≡ 201 → 273 ≤ length out
-    → take (finishedEnd f out) (finishedText f out) ≡ lastLine (runOf f words out)
+    → take (finishedEnd f out) (finishedText f out) ≡ lastLine (progressOf f words out)
 unfolding lastLine
 finish-writes f words out l h = go (eqb (f .held) 0) refl
   where
@@ -40,27 +39,16 @@ finish-writes f words out l h = go (eqb (f .held) 0) refl
         let n : length (take (f .held) (f .line)) ≡ 0 → ⊥ = (λ m. z (omega (arith, m, length-take (f .held) (f .line)))) in
         rw (ne-eqb _ _ n) (told-text out 0 (f .number) 1 (0 ∷ []) h (omega arith) refl refl)
 
--- the same with an empty buffer
-abbrev pub emptied : Feed → Feed
-emptied f = record { state = f .state; number = f .number; line = f .line; held = f .held; at = 0; taken = f .taken }
-
--- what is written from a feed on: for each piece that `feed_piece` takes from an empty buffer its text, and what `finish` adds
-pub data Turns : Feed → List ℕ → List (List ℕ) → List ℕ → Type 0 where
-  finish : (f : Feed) (words out : List ℕ) → length (f .line) ≡ 201 → 273 ≤ length out → Turns f words [] (take (finishedEnd f out) (finishedText f out))
-  turn : (f : Feed) (words out : List ℕ) (p : List ℕ) (f′ : Feed) (words′ out′ : List ℕ) (ps : List (List ℕ)) (t : List ℕ)
-      → runOf f′ words′ out′ ≡ foldl (onHeld unchecked) (runOf (emptied f) words out) p → Turns f′ words′ ps t
-      → Turns f words (p ∷ ps) (take (f′ .at) out′ ++ t)
-
-turns-write : (f : Feed) (words out : List ℕ) (ps : List (List ℕ)) (t : List ℕ) → Turns f words ps t → t ≡ writtenFor unchecked heldByte (runOf f words out) ps
+turns-write : (f : Feed) (words out : List ℕ) (ps : List (List ℕ)) (t : List ℕ) → Turns f words ps t → t ≡ writtenFor unchecked heldByte (progressOf f words out) ps
 unfolding lastLine
 turns-write _ _ out _ _ (finish f words out₁ l h) = finish-writes f words out₁ l h
 turns-write _ _ out _ _ (turn f words out₁ p f′ words′ out′ ps′ t′ e n) =
     ap (λ (z : List ℕ). take (f′ .at) out′ ++ z) (turns-write f′ words′ out′ ps′ t′ n)
-    ∙ ap (λ (z : Run). z .text ++ writtenFor unchecked heldByte z ps′) e
+    ∙ ap (λ (z : Progress). z .text ++ writtenFor unchecked heldByte z ps′) e
 
 -- WHAT THE PROGRAM WRITES: the header, and what the turns from the start on write, for any pieces of an input
 pub turns-output : (ps : List (List ℕ)) (t : List ℕ) → Turns startFeed (replicate 8192 0) ps t → header ++ t ≡ output (joined ps)
 turns-output ps t n =
-    ap (λ (z : List ℕ). header ++ z) (turns-write startFeed (replicate 8192 0) [] ps t n ∙ ap (λ (z : Run). writtenFor unchecked heldByte z ps) (start-run []))
+    ap (λ (z : List ℕ). header ++ z) (turns-write startFeed (replicate 8192 0) [] ps t n ∙ ap (λ (z : Progress). writtenFor unchecked heldByte z ps) (start-progress []))
     ∙ ap (λ (z : List ℕ). header ++ z) (written-flushed unchecked heldByte started ps)
     ∙ program-writes ps

@@ -6,7 +6,7 @@ ghost use mathlib.Core.List.{foldl};
 ghost use Prim.Native.Nat.{_≤_};
 ghost use lib.ListN.{length, take};
 ghost use Rattle.lines.specs.Grammar.{lineOf};
-ghost use Rattle.stream.specs.Held.{heldByte};
+ghost use Rattle.stream.specs.Feed.{heldByte};
 
 // One byte more is held, 201 at most.
 fn hold_byte(line: &mut [u8], n: usize, b: u8) -> usize

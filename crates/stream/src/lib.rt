@@ -1,17 +1,21 @@
 // The call program's work on the pieces of its input.
+use apply::domain_call;
+use boots::boot_line;
 use calls::Access;
 use calls::DomainCall;
+use calls::ObjectCall;
 use held::hold;
 use held::read_one;
 use kinds::access_line;
-use kinds::domain_line;
 use kinds::kind_of;
+use kinds::object_line;
+use lines::Homes;
 use lines::find;
-use state::Domain;
+use state::Estate;
 use state::State;
 use state::estates::empty_state;
+use text::put_answer;
 use text::put_line;
-use whole::answer_line;
 ghost use mathlib.Core.Path.{_≡_};
 ghost use mathlib.Core.Bool.{true};
 ghost use mathlib.Core.List.{foldl};
@@ -19,12 +23,11 @@ ghost use Prim.Native.Nat.{_≤_, min};
 ghost use lib.ListN.{length, take};
 ghost use Rattle.calls.specs.Step.{unchecked};
 ghost use Rattle.stream.specs.Run.{nextNumber, header};
-ghost use Rattle.stream.specs.Held.{onHeld};
-ghost use Rattle.stream.specs.Feed.{startFeed, runOf, finishedText, finishedEnd, roomFor, stopped};
+ghost use Rattle.stream.specs.Feed.{startFeed, progressOf, finishedText, finishedEnd, roomFor, stopped, onHeld};
 
+mod boots;
 mod held;
 mod kinds;
-mod whole;
 
 // Where the program stands between two bytes of its input.
 pub struct Feed {
@@ -40,22 +43,24 @@ pub struct Feed {
     pub taken: usize,
 }
 
-// What a line asks for, by what it may change: nothing, for its answer is known (its number); words; the caller's domain; anything.
+// What a line asks for, by what it may change: nothing, for its answer is known (its number); words; an estate and words; the caller's
+// domain; all.
 enum Kind {
     Known(u64),
     Access(usize, Access),
+    Object(usize, ObjectCall),
     Domain(usize, DomainCall),
-    Other,
+    Boot(u64, Homes),
 }
 
-// The caller's domain and the end of the text behind a line.
-struct Changed {
-    domain: Domain,
+// Behind a line: the part of the state that it may have changed, and the end of the text.
+struct NewEstate {
+    place: usize,
+    estate: Estate,
     at: usize,
 }
 
-// The state and the end of the text behind a line.
-struct Behind {
+struct NewState {
     state: State,
     at: usize,
 }
@@ -140,10 +145,12 @@ fn at_most(n: usize, most: usize) -> usize
 
 // Takes bytes of a piece, answers the lines that end there into `out`, and stops where the longest answer has no room.
 pub fn feed_piece(f: Feed, store: &mut [u64], piece: &[u8], out: &mut [u8]) -> Feed
-    ensures { λ r. ⌜ runOf r (now (store .exit)) (now (out .exit)) ≡ foldl (onHeld unchecked) (runOf f (now (store .entry)) (now (out .entry))) (take (r .taken) (now (piece .entry))) ⌝ }
+    ensures { λ r. ⌜ progressOf r (now (store .exit)) (now (out .exit)) ≡ foldl (onHeld unchecked) (progressOf f (now (store .entry)) (now (out .entry))) (take (r .taken) (now (piece .entry))) ⌝ }
     ensures { λ r. ⌜ (r .taken ≤ length (now (piece .entry))) × (stopped (length (now (piece .entry))) (length (now (out .entry))) (r .taken) (r .at) ≡ true) × (r .at ≤ length (now (out .entry))) ⌝ }
 {
-    let mut s = f.state;
+    let s = f.state;
+    let mut table = s.table;
+    let mut domains = s.domains;
     let mut number = f.number;
     let mut line = f.line;
     let mut held = at_most(f.held, 201);
@@ -168,32 +175,46 @@ pub fn feed_piece(f: Feed, store: &mut [u64], piece: &[u8], out: &mut [u8]) -> F
                 continue;
             }
             Kind::Access(who, c) => {
-                let t = s.table;
-                let m = s.domains[who];
+                let m = domains[who];
                 let g = m.active;
-                at = access_line(t, store, g, c, n, out, at);
+                at = access_line(table, store, g, c, n, out, at);
                 continue;
             }
-            Kind::Domain(who, c) => {
-                let t = s.table;
-                let m = s.domains[who];
-                let r = domain_line(t, store, m, c, n, out, at);
-                let e = r.domain;
-                s.domains[who] = e;
+            Kind::Object(who, c) => {
+                let m = domains[who];
+                let g = m.active;
+                let r = object_line(table, store, who, g, c, n, out, at);
+                let k = r.place;
+                let e = r.estate;
+                table.estates[k] = e;
                 at = r.at;
                 continue;
             }
-            Kind::Other => {
-                let r = answer_line(s, store, reading, n, out, at);
-                let t = r.state;
-                s = t;
+            Kind::Domain(who, c) => {
+                let m = domains[who];
+                let r = domain_call(table, store, m, c);
+                let e = r.domain;
+                domains[who] = e;
+                let a = r.answer;
+                let fields = r.fields;
+                at = put_answer(out, at, n, a, fields);
+                continue;
+            }
+            Kind::Boot(who, homes) => {
+                let old = State { table, domains };
+                let r = boot_line(old, store, who, homes, n, out, at);
+                let new = r.state;
+                let t = new.table;
+                let ms = new.domains;
+                table = t;
+                domains = ms;
                 at = r.at;
                 continue;
             }
         }
     }
     Feed {
-        state: s,
+        state: State { table, domains },
         number,
         line,
         held,

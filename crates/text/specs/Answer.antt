@@ -4,14 +4,10 @@ use mathlib.Core.Path.{_≡_, refl, _∙_, sym}
 use mathlib.Core.Bool.{Bool, true, false, cond}
 use mathlib.Core.List.{List, [], _∷_, _++_, foldl}
 use native.Mathlib.Omega.{arith}
-use lib.Dec.{leb, ltb, eqb}
+use lib.Dec.{leb, ltb}
 use lib.ListN.{length, take}
 use lib.Seq.{take-all}
 use borrow.Author.Tests.{le-leb, lt-leb, ltb-true}
-use Rattle.calls.specs.declared.Answer.{Answer}
-use Rattle.calls.specs.declared.Fields.{Fields}
-use Rattle.calls.specs.declared.Outcome.{Outcome}
-use Rattle.calls.specs.Answers.{valueOf, valuesOf}
 use Rattle.text.specs.Decimal.{decimal}
 use Rattle.text.specs.Puts.{withText, Put, put-is}
 
@@ -26,13 +22,6 @@ fieldsText vs = foldl withField [] vs
 -- line,answer,value,.. and the line feed
 unfoldable pub answerLine : ℕ → ℕ → List ℕ → List ℕ
 answerLine line answer values = decimal line ++ (44 ∷ decimal answer) ++ fieldsText values ++ (10 ∷ [])
-
--- what stands behind the answer number: the fields of a done GT, else the value
-abbrev pub valuesFrom : Answer → Fields → List ℕ
-valuesFrom a f = cond (eqb (f .count) 0) (valueOf a ∷ []) (take (f .count) (f .values))
-
-pub values-are : (o : Outcome) → valuesFrom (o .answer) (o .fields) ≡ valuesOf o
-values-are o = refl
 
 -- a count of at most eleven fields
 abbrev pub shownCount : ℕ → ℕ

@@ -15,7 +15,7 @@ digits-length (suc k) n = omega (arith, digits-length k (n / 10), length-append 
 -- what a loop that puts the k digits of n at `at` knows, when the last of them stand and the first i, those of `rest`, do not
 pub record Spelling (old : List ℕ) (at n k : ℕ) (out : List ℕ) (rest i : ℕ) : Type 0 where
   pub bound : i ≤ k
-  pub kept : length out ≡ length old
+  pub same-length : length out ≡ length old
   pub last : List ℕ
   pub whole : lastDigits k n ≡ lastDigits i rest ++ last
   pub front : take (at + i) out ≡ take (at + i) old
@@ -23,7 +23,7 @@ pub record Spelling (old : List ℕ) (at n k : ℕ) (out : List ℕ) (rest i : �
 
 module _ {old : List ℕ} {at n k : ℕ} where
   pub spelling-none : Spelling old at n k old n k
-  spelling-none = record { bound = omega arith; kept = refl; last = []; whole = sym (append-nil _); front = refl; behind = refl }
+  spelling-none = record { bound = omega arith; same-length = refl; last = []; whole = sym (append-nil _); front = refl; behind = refl }
 
   module _ {out : List ℕ} {rest i : ℕ} (p : Spelling old at n k out rest i) where
     pub spelling-more : at + k ≤ length old → 0 < i → Spelling old at n k (set out (at + (i - 1)) (48 + rest % 10)) (rest / 10) (i - 1)
@@ -34,14 +34,14 @@ module _ {old : List ℕ} {at n k : ℕ} where
         let a : suc (at + j) ≡ at + i = omega arith in
         record {
           bound = omega (arith, p .bound);
-          kept = length-set out (at + j) d ∙ p .kept;
+          same-length = length-set out (at + j) d ∙ p .same-length;
           last = d ∷ p .last;
           whole = p .whole ∙ ap (λ (m : ℕ). lastDigits m rest ++ p .last) e ∙ append-assoc (lastDigits j (rest / 10)) (d ∷ []) (p .last);
           front =
               take-set-le (at + j) out (at + j) d (omega arith)
               ∙ sym (take-take (at + j) (at + i) out (omega arith)) ∙ rw (p .front) (take-take (at + j) (at + i) old (omega arith));
           behind =
-              rw (set-split out (at + j) d (omega (arith, p .bound, p .kept)), drop-at (take (at + j) out) (d ∷ drop (suc (at + j)) out) (at + j) (length-take-le (at + j) out (omega (arith, p .bound, p .kept))), a, p .behind);
+              rw (set-split out (at + j) d (omega (arith, p .bound, p .same-length)), drop-at (take (at + j) out) (d ∷ drop (suc (at + j)) out) (at + j) (length-take-le (at + j) out (omega (arith, p .bound, p .same-length))), a, p .behind);
         }
 
     pub spelling-all : at + k ≤ length old → i ≤ 0 → Put old at (lastDigits k n) out (at + k)

@@ -6,10 +6,10 @@ ghost use mathlib.Core.Path.{_≡_};
 ghost use mathlib.Core.List.{[], _∷_};
 ghost use Prim.Native.Nat.{_+_, _*_, _<_, _≤_};
 ghost use lib.ListN.{length};
-ghost use Rattle.calls.specs.Answers.{refusalNumber, numberOf, valueOf};
+ghost use Rattle.calls.specs.Answers.{refusalNumber, numberOf, valueOf, valuesFrom};
 ghost use Rattle.text.specs.Decimal.{decimal, lastDigits, Places};
 ghost use Rattle.text.specs.Puts.{Put};
-ghost use Rattle.text.specs.Answer.{fieldsText, answerLine, valuesFrom, shownCount, printed, printedEnd};
+ghost use Rattle.text.specs.Answer.{fieldsText, answerLine, shownCount, printed, printedEnd};
 
 fn put_byte(out: &mut [u8], at: usize, b: u8) -> usize
     requires { ⌜ at < length (now out) ⌝ }
@@ -35,7 +35,7 @@ fn places(n: u64) -> usize
     k
 }
 
-// The last k digits of n, the last one first.
+// The last k digits of n, put from the last one backwards.
 fn put_digits(out: &mut [u8], at: usize, n: u64, k: usize) -> usize
     requires { ⌜ at + k ≤ length (now out) ⌝ }
     ensures { λ r. ⌜ Put (now (out .entry)) at (lastDigits k n) (now (out .exit)) r × (r ≡ at + k) ⌝ }

@@ -22,8 +22,8 @@ use Rattle.soundness.specs.Laws.Estates.{object-apart-sound, empty-sound}
 use Rattle.soundness.specs.Laws.StateParts.{parts-state}
 use Rattle.calls.specs.Answers.{numberOf}
 use Rattle.calls.specs.View.{Check, check, firstFailing}
-use Rattle.calls.specs.Step.{Result, refused, world, result, doneWith, storeCheck}
-use Rattle.calls.specs.Boot.{homeOf, homeEstate, homeDomain, bootState, homePair, bootWords, booted, homesOk, boot}
+use Rattle.calls.specs.Step.{refused, world, result, doneWith, storeCheck}
+use Rattle.calls.specs.Boot.{homeOf, homeEstate, homeDomain, bootState, homePair, bootWords, booted, homesOk, bootedBy, boot}
 use Rattle.calls.specs.Laws.Order.{ascending, AllHold, FailsFirst, none-fails, first-fails, Answering, answers-refused, answers-done}
 use Rattle.calls.specs.Laws.Passed.{Unchanged}
 use borrow.Author.Tests.{eq-eqb, lt-ltb}
@@ -76,10 +76,6 @@ bootChecks words d homes =
     ∷ check NoDomain (ltb d 4)
     ∷ check OutOfRange (homesOk homes)
     ∷ []
-
--- BT behind checks 2 and 4
-abbrev pub bootedBy : List ℕ → List ℕ → Result
-bootedBy words homes = booted homes words (firstFailing (check OutOfRange (homesOk homes) ∷ []))
 
 module _ (words : List ℕ) (d : ℕ) (homes : List ℕ) where
   -- BT by a caller that is known, and by one that is not

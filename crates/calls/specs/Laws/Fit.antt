@@ -10,12 +10,11 @@ use borrow.Author.Tests.{leb-true, ltb-true, lt-ltb, ne-eqb, not-true}
 use Rattle.bounded.specs.Bools.{and-left, and-right, guarded, unless, cond-ind}
 use Rattle.bounded.specs.Every.{below-at}
 use Rattle.bounded.specs.Fill.{tabulate-at}
-use Rattle.rights.specs.Bits.{bit}
 use Rattle.state.specs.Places.{objectAt, estateAt, domainAt}
 use Rattle.state.specs.Extent.{covers, apart, liesIn}
 use Rattle.state.specs.Lookup.{hasBase, covering, based, placeBased, objectBased, objectCovering, hasPassword}
 use Rattle.state.specs.Update.{newObject, withObject, withRegistration, mergeList, onlyList}
-use Rattle.state.specs.Laws.Extent.{SameRun, add-run, register-run, drop-run, not-zero}
+use Rattle.state.specs.Laws.Extent.{SameRun, add-run, register-run, drop-run}
 use Rattle.soundness.specs.Sound.{objectOk, estateOk, frameOk, domainOk, sound}
 use Rattle.soundness.specs.Laws.Frames.{insert-sound, remove-sound, lock-sound, merge-sound, only-sound}
 use Rattle.soundness.specs.Laws.Domains.{active-sound, save-sound, restore-sound}
@@ -29,18 +28,14 @@ use Rattle.state.specs.declared.Capability.{Capability}
 use Rattle.state.specs.declared.Object.{Object}
 use Rattle.state.specs.declared.Estate.{Estate}
 use Rattle.state.specs.declared.Frame.{Frame}
-use Rattle.judge.specs.Search.{targeted}
 use Rattle.judge.specs.Judged.{judged}
-use Rattle.judge.specs.Laws.Grant.{TruePair, grant-means, grant-registered}
-use Rattle.judge.specs.declared.Target.{Target}
 use Rattle.judge.specs.declared.Target.the-variants.{Address, Base}
-use Rattle.judge.specs.declared.Judgement.{Judgement}
-use Rattle.judge.specs.declared.Judgement.the-variants.{Granted}
-use Rattle.calls.specs.View.{rights, World, Found, search, foundBy, isSome, objectOf, estateFound}
+use Rattle.calls.specs.View.{rights, World, Found, search, isSome, objectOf, estateFound}
 use Rattle.calls.specs.Arguments.{entryOf, entriesAll, runFree}
 use Rattle.calls.specs.Changes.{Change, word, zeros, estate, domain, capability, registration, entered}
 use Rattle.calls.specs.Rules.{inRange, unlocked, view, late, changes}
 use Rattle.calls.specs.Laws.Passed.{Passes}
+use Rattle.calls.specs.Laws.Searched.{was-granted, called-registered}
 use Rattle.calls.specs.declared.Call.{Call}
 use Rattle.calls.specs.declared.Call.the-variants.{OnStore, OnObject, OnDomain}
 use Rattle.calls.specs.declared.Access.the-variants.{Read, Write, Execute, Lookup}
@@ -60,22 +55,6 @@ abbrev pub AllFit : List Change → Type 0
 AllFit [] = Unit {0}
 AllFit (c ∷ cs) = Fit c × AllFit cs
 
--- a search that found something was granted by a pair
-record Granting (w : World) (f : Frame) (target : Target) (r : ℕ) : Type 0 where
-  pub pair : ℕ
-  pub judgement : judged (w .state .table) (w .words) f target r ≡ Granted pair
-  pub pages : 0 < targeted (w .state .table) target .pages
-  pub means : TruePair (w .words) (targeted (w .state .table) target) r pair
-
-was-granted : (w : World) (f : Frame) (target : Target) (r : ℕ) → isSome (search judged w f (rights target r)) ≡ true → Granting w f target r
-was-granted w f target r h = go (judged (w .state .table) (w .words) f target r) refl h
-  where
-    go : (j : Judgement) → judged (w .state .table) (w .words) f target r ≡ j → isSome (foundBy w target j) ≡ true → Granting w f target r
-    go (Granted pair) e h =
-        let m = grant-means (w .state .table) (w .words) f target r pair e in
-        record { pair = pair; judgement = e; pages = not-zero _ (m .stands); means = m }
-    go Judgement.Refused e h = let z : _≡_ {A = ℕ} 0 1 = cc in absurd (omega arith)
-
 -- the object with the base, found by a search for rights on it
 abbrev owned : World → Frame → ℕ → ℕ → Option Found
 owned w f b r = search judged w f (rights (Base b) r)
@@ -92,13 +71,13 @@ module _ (w : World) (f : Frame) (b r : ℕ) (h : sound (w .state) ≡ true) (s 
   owned-sound = rw (was-granted w f (Base b) r s .judgement) (stands-sound (hasBase b) _ (b / 32) (found .stands) (found .sound-estate))
 
   -- another object with its run, in its place
-  owned-becomes : (o : Object) → SameRun o (objectOf (owned w f b r)) → objectOk o (b / 32) ≡ true
+  pub owned-becomes : (o : Object) → SameRun o (objectOf (owned w f b r)) → objectOk o (b / 32) ≡ true
       → estateOk (withObject (estateFound (owned w f b r)) (placeBased (estateFound (owned w f b r)) b) o) (b / 32) ≡ true
   unfolding objectBased based placeBased
   owned-becomes o = rw (was-granted w f (Base b) r s .judgement) (λ m p. found-run-sound (hasBase b) _ (b / 32) o (found .stands) m p (found .sound-estate))
 
 -- a new object that lies in the estate and meets no other
-new-fit : (e : Estate) (d place p n k : ℕ) → estateOk e d ≡ true → liesIn (newObject p n k) d && runFree e (newObject p n k) ≡ true
+pub new-fit : (e : Estate) (d place p n k : ℕ) → estateOk e d ≡ true → liesIn (newObject p n k) d && runFree e (newObject p n k) ≡ true
     → (estateOk (withObject e place (newObject p n k)) d ≡ true) × (p + n ≤ 32 * d + 32)
 unfolding liesIn runFree newObject
 new-fit e d place p n k h t =
@@ -138,13 +117,12 @@ registered-fit o d b k l es range inside new h =
 -- the list of a registration that P is granted on names a page
 entered-list : (w : World) (f : Frame) (a : ℕ) → sound (w .state) ≡ true → isSome (search judged w f (rights (Address a) 16)) ≡ true
     → objectOf (search judged w f (rights (Address a) 16)) .registration .list .page < 128
-unfolding bit objectCovering covering
+unfolding objectCovering covering
 entered-list w f a h s =
     let g = was-granted w f (Address a) 16 s in
     let o = objectCovering (w .state .table) (a / 64) in
     let b : ObjectBounds o (a / 64 / 32) = covering-sound (w .state) (a / 64) h (g .pages) .bounds in
-    let e = grant-registered (w .words) o 16 (g .pair) (a / 64 / 32) b refl (g .means) in
-    rw (g .judgement) (registration-parts o (b .registration) (rw e (g .means .nonzero)) .list)
+    rw (g .judgement) (registration-parts o (b .registration) (called-registered w f a (g .pair) h (g .judgement)) .list)
 
 -- the frame that a PDX call runs in
 entered-sound : (ch : ℕ) (f : Frame) (c : Capability) → c .page < 128 → frameOk false f ≡ true → frameOk false (entered ch f c) ≡ true

@@ -7,18 +7,19 @@ use mathlib.Core.Logic.{_↔_, Iff·trans}
 use mathlib.Core.Option.{Option, none, some}
 use native.Mathlib.Omega.{arith}
 use lib.Dec.{leb}
-use borrow.Author.Tests.{leb-true}
-use Rattle.bounded.specs.Bools.{and-left, and-right}
+use borrow.Author.Tests.{leb-true, le-leb}
+use Rattle.bounded.specs.Bools.{and-left, and-right, and-both}
 use Rattle.judge.specs.Judged.{judged}
 use Rattle.calls.specs.Answers.{refusalNumber, numberOf}
-use Rattle.calls.specs.View.{World, View, Check, check, firstFailing}
-use Rattle.calls.specs.Rules.{view, early, late, checks}
+use Rattle.calls.specs.View.{World, Want, nothing, rights, View, Check, check, firstFailing}
+use Rattle.calls.specs.Rules.{rule, wanted, presented, grantedCheck, presentedCheck, view, early, late, checks}
 use Rattle.calls.specs.Step.{stepBy, step, refused, concluded, storeCheck, soundCheck}
 use Rattle.calls.specs.declared.Call.{Call}
 use Rattle.calls.specs.declared.Call.the-variants.{OnStore, OnObject, OnDomain}
 use Rattle.calls.specs.declared.Access.the-variants.{Read, Write, Execute, Lookup}
 use Rattle.calls.specs.declared.ObjectCall.the-variants.{Create, Delete, AddPassword, DropPassword, Register}
 use Rattle.calls.specs.declared.DomainCall.the-variants.{Insert, Remove, Get, Lock, PdxCall, PdxReturn}
+use Rattle.calls.specs.declared.Presented.{Presented}
 use Rattle.calls.specs.declared.Refusal.{Refusal}
 use Rattle.calls.specs.declared.Refusal.the-variants.{StoreLength, Unsound, NoDomain, OutOfRange, Locked, NotGranted, NotEntry, NoRun, HasPassword, Full, Missing}
 use Rattle.calls.specs.declared.Answer.{Answer}
@@ -33,24 +34,44 @@ unfoldable pub ascending : ℕ → List Check → Bool
 ascending n [] = true
 ascending n (check r holds ∷ cs) = leb n (refusalNumber r) && ascending (refusalNumber r) cs
 
+-- a lower number may stand before such a list
+ascends-from : (m n : ℕ) (cs : List Check) → m ≤ n → ascending n cs ≡ true → ascending m cs ≡ true
+unfolding ascending
+ascends-from m n [] l h = refl
+ascends-from m n (check r holds ∷ cs) l h =
+    let k = leb-true n (refusalNumber r) (and-left _ _ h) in
+    and-both (le-leb m (refusalNumber r) (omega arith)) (and-right (leb n (refusalNumber r)) _ h)
+
+-- after check 7 the numbers are 8 or more, and never fall, whatever is read
+pub rest-ascends : (d : ℕ) (c : Call) (v : View) → ascending 8 (rule c .rest d v) ≡ true
+unfolding ascending rule
+rest-ascends d (OnStore (Read a)) v = refl
+rest-ascends d (OnStore (Write a x)) v = refl
+rest-ascends d (OnStore (Execute a)) v = refl
+rest-ascends d (OnStore (Lookup a r)) v = refl
+rest-ascends d (OnObject (Create p n k)) v = refl
+rest-ascends d (OnObject (Delete b)) v = refl
+rest-ascends d (OnObject (AddPassword b k m)) v = refl
+rest-ascends d (OnObject (DropPassword b k)) v = refl
+rest-ascends d (OnObject (Register b k l es)) v = refl
+rest-ascends d (OnDomain (Insert i l)) v = refl
+rest-ascends d (OnDomain (Remove i)) v = refl
+rest-ascends d (OnDomain Get) v = refl
+rest-ascends d (OnDomain (Lock i)) v = refl
+rest-ascends d (OnDomain (PdxCall a ch)) v = refl
+rest-ascends d (OnDomain PdxReturn) v = refl
+
 -- THE CHECKS COME IN THE PAPER'S ORDER, whatever is read
 pub checks-ascend : (w : World) (d : ℕ) (c : Call) (v : View) → ascending 2 (storeCheck w ∷ soundCheck w ∷ checks d c v) ≡ true
 unfolding ascending checks early late
-checks-ascend w d (OnStore (Read a)) v = refl
-checks-ascend w d (OnStore (Write a x)) v = refl
-checks-ascend w d (OnStore (Execute a)) v = refl
-checks-ascend w d (OnStore (Lookup a r)) v = refl
-checks-ascend w d (OnObject (Create p n k)) v = refl
-checks-ascend w d (OnObject (Delete b)) v = refl
-checks-ascend w d (OnObject (AddPassword b k m)) v = refl
-checks-ascend w d (OnObject (DropPassword b k)) v = refl
-checks-ascend w d (OnObject (Register b k l es)) v = refl
-checks-ascend w d (OnDomain (Insert i l)) v = refl
-checks-ascend w d (OnDomain (Remove i)) v = refl
-checks-ascend w d (OnDomain Get) v = refl
-checks-ascend w d (OnDomain (Lock i)) v = refl
-checks-ascend w d (OnDomain (PdxCall a ch)) v = refl
-checks-ascend w d (OnDomain PdxReturn) v = refl
+checks-ascend w d c v = from-six (wanted c) (presented c) (rule c .rest d v) (rest-ascends d c v)
+  where
+    from-six : (want : Want) (presents : Option Presented) (cs : List Check) → ascending 8 cs ≡ true
+        → ascending 6 (grantedCheck want v ++ presentedCheck presents v ++ cs) ≡ true
+    from-six nothing none cs h = ascends-from 6 8 cs (omega arith) h
+    from-six nothing (some l) cs h = ascends-from 7 8 cs (omega arith) h
+    from-six (rights target r) none cs h = ascends-from 7 8 cs (omega arith) h
+    from-six (rights target r) (some l) cs h = ascends-from 7 8 cs (omega arith) h
 
 -- each check of the list holds
 abbrev pub AllHold : List Check → Type 0

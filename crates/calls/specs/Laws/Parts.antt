@@ -1,10 +1,10 @@
 -- What the code of a call hands back, check by check, where it returns: the promises of Parts.antt from facts about the parts alone.
-use Prim.Native.Nat.{ℕ, suc}
+use Prim.Native.Nat.{ℕ}
 use mathlib.Core.Path.{_≡_, refl, ap, _∙_}
 use mathlib.Core.Bool.{true, false}
-use mathlib.Core.List.{List, [], _∷_}
+use mathlib.Core.List.{List, []}
 use mathlib.Core.Option.{none, some}
-use lib.ListN.{getD, set}
+use lib.Seq.{set-getD}
 use Rattle.state.specs.Places.{noEstate, noDomain, estateAt, domainAt}
 use Rattle.state.specs.Update.{withEstate, withDomain}
 use Rattle.state.specs.declared.Estate.{Estate}
@@ -34,18 +34,12 @@ use Rattle.calls.specs.declared.Moved.{Moved}
 use Rattle.calls.specs.declared.Refusal.{Refusal}
 use Rattle.calls.specs.declared.Refusal.the-variants.{OutOfRange, Locked}
 
--- a list in which an element is set to what it is
-set-own : {A : Type 0} (xs : List A) (k : ℕ) (d : A) → set xs k (getD xs k d) ≡ xs
-set-own [] k d = refl
-set-own (x ∷ xs) ℕ.zero d = refl
-set-own (x ∷ xs) (suc k) d = ap (λ ys. x ∷ ys) (set-own xs k d)
-
 -- a state with an estate, or a domain, put where it stands
 own-estate : (s : State) (t : Table) (k : ℕ) → s .table ≡ t → withEstate s k (estateAt t k) ≡ s
-own-estate s t k p = rw (← p, set-own (s .table .estates) k noEstate)
+own-estate s t k p = rw (← p, set-getD (s .table .estates) k noEstate)
 
 own-domain : (s : State) (m : Domain) (d : ℕ) → domainAt s d ≡ m → withDomain s d m ≡ s
-own-domain s m d q = rw (← q, set-own (s .domains) d noDomain)
+own-domain s m d q = rw (← q, set-getD (s .domains) d noDomain)
 
 -- what a call reads, by the parts
 abbrev pub viewOf : Table → List ℕ → Domain → Estate → Call → View

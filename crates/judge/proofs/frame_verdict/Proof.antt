@@ -10,8 +10,9 @@ use Rattle.state.specs.Places.{slotAt}
 use Rattle.state.specs.declared.Object.{Object}
 use Rattle.state.specs.declared.Table.{Table}
 use Rattle.state.specs.declared.Frame.{Frame}
-use Rattle.judge.specs.Search.{named, live, clist, listAt, decides, listVerdict, slotVerdict, frameVerdict}
-use Rattle.judge.specs.Laws.Lists.{list-unused}
+use Rattle.clists.specs.Clist.{named, live, clist, listAt}
+use Rattle.judge.specs.Search.{decides, listVerdict, slotVerdict, frameVerdict}
+use Rattle.clists.specs.Laws.Lists.{list-unused}
 use Rattle.judge.specs.declared.Verdict.the-variants.{Passed}
 use Rattle.judge.proofs.frame_verdict.Statement.{statement}
 use Rattle.judge.proofs.frame_verdict.Tie as tie

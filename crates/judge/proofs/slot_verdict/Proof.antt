@@ -8,8 +8,8 @@ use borrow.Author.Needs.{needs}
 use Rattle.bounded.specs.Bools.{cond-same}
 use Rattle.state.specs.declared.Capability.{Capability}
 use Rattle.state.specs.declared.Table.{Table}
-use Rattle.judge.specs.Search.{named, live, runWords, clist}
-use Rattle.judge.specs.Laws.Lists.{live-base}
+use Rattle.clists.specs.Clist.{named, live, runWords, clist}
+use Rattle.clists.specs.Laws.Live.{live-base}
 use Rattle.judge.proofs.slot_verdict.Statement.{statement}
 use Rattle.judge.proofs.slot_verdict.Tie as tie
 

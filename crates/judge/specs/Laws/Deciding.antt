@@ -5,8 +5,7 @@ use mathlib.Core.Bool.{Bool, true, false, cond, _||_, true≢false}
 use mathlib.Core.List.{List}
 use mathlib.Core.Logic.{_⊎_, inl, inr, ⊎-elim}
 use native.Mathlib.Omega.{arith}
-use lib.Dec.{ltb, eqb}
-use borrow.Author.Tests.{ltb-true, ltb-false}
+use lib.Dec.{eqb}
 use Rattle.bounded.specs.Bools.{flag}
 use Rattle.bounded.specs.Search.{FirstAt, NoneAt, first-cases, first-none, first-at}
 use Rattle.rights.specs.Modes.{grants, denies}
@@ -15,10 +14,11 @@ use Rattle.state.specs.Extent.{free}
 use Rattle.state.specs.declared.Object.{Object}
 use Rattle.state.specs.declared.Table.{Table}
 use Rattle.state.specs.declared.Frame.{Frame}
-use Rattle.judge.specs.Search.{listAt, verdictOf, pairVerdict, decides, listVerdict, slotVerdict, frameVerdict, judgementOf, targeted, searched}
+use Rattle.clists.specs.Clist.{listAt}
+use Rattle.judge.specs.Search.{verdictOf, pairVerdict, decides, listVerdict, slotVerdict, frameVerdict, judgementOf, targeted, searched}
 use Rattle.judge.specs.Judged.{judged}
 use Rattle.judge.specs.Judged.Inside.{judged-is}
-use Rattle.judge.specs.Laws.Pairs.{pairsAt, Before, NotAfter, PassedOver}
+use Rattle.judge.specs.Pairs.{pairsAt, Before, PassedOver}
 use Rattle.judge.specs.declared.Target.{Target}
 use Rattle.judge.specs.declared.Verdict.{Verdict}
 use Rattle.judge.specs.declared.Verdict.the-variants.{Granted, Denied, Passed}
@@ -129,22 +129,6 @@ module _ (t : Table) (words : List ℕ) (f : Frame) (o : Object) (wanted : ℕ) 
   frame-none h =
       first-none _ (slotVerdict t words f o wanted) Passed 0 8
       (λ i a z. ap decides (slot-none i (λ j b l. h i j (omega arith) (omega arith))))
-
--- of two pairs one comes before the other, or they are the same
-pub order : (i j slot place : ℕ) → NotAfter i j slot place ⊎ Before slot place i j
-order i j slot place = by-slot (flag (ltb i slot)) (flag (ltb slot i))
-  where
-    by-place : i ≡ slot → (ltb j place ≡ true) ⊎ (ltb j place ≡ false) → (ltb place j ≡ true) ⊎ (ltb place j ≡ false)
-        → NotAfter i j slot place ⊎ Before slot place i j
-    by-place e (inl c) d = inl (inl (inr (e, ltb-true j place c)))
-    by-place e (inr c) (inl d) = inr (inr (sym e, ltb-true place j d))
-    by-place e (inr c) (inr d) = inl (inr (e, omega (arith, ltb-false j place c, ltb-false place j d)))
-
-    by-slot : (ltb i slot ≡ true) ⊎ (ltb i slot ≡ false) → (ltb slot i ≡ true) ⊎ (ltb slot i ≡ false)
-        → NotAfter i j slot place ⊎ Before slot place i j
-    by-slot (inl a) b = inl (inl (inl (ltb-true i slot a)))
-    by-slot (inr a) (inl b) = inr (inl (ltb-true slot i b))
-    by-slot (inr a) (inr b) = by-place (omega (arith, ltb-false i slot a, ltb-false slot i b)) (flag (ltb j place)) (flag (ltb place j))
 
 -- what the verdict on a pair tells of its mode
 pub verdict-granted : (mode wanted at a : ℕ) → verdictOf mode wanted at ≡ Granted a → (a ≡ at) × (grants mode wanted ≡ true)

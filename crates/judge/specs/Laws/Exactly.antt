@@ -8,73 +8,34 @@ use native.Mathlib.Omega.{arith}
 use lib.Dec.{eqb}
 use Rattle.rights.specs.Modes.{grants, denies}
 use Rattle.rights.specs.Laws.{never-both}
-use Rattle.state.specs.Places.{slotAt}
 use Rattle.state.specs.Extent.{free}
 use Rattle.state.specs.declared.Object.{Object}
 use Rattle.state.specs.declared.Table.{Table}
 use Rattle.state.specs.declared.Frame.{Frame}
-use Rattle.judge.specs.Search.{live, pairVerdict, decides, frameVerdict, judgementOf, targeted}
+use Rattle.judge.specs.Search.{pairVerdict, decides, frameVerdict, judgementOf, targeted}
 use Rattle.judge.specs.Judged.{judged}
-use Rattle.judge.specs.Laws.Pairs.{pairsAt, modeAt, addressAt, Before, NotAfter, EachBefore, EachPair, PassedOver}
-use Rattle.judge.specs.Laws.Lists.{list-alive}
-use Rattle.judge.specs.Laws.Deciding.{says, Decides, frame-cases, frame-at, frame-none, order, verdict-granted, granted-verdict, verdict-passed, passed-verdict, verdict-undenied, grant-verdict, judged-by}
+use Rattle.judge.specs.Pairs.{pairsAt, modeAt, addressAt, Before, NotAfter, EachPair}
+use Rattle.judge.specs.Granting.{PairAt, GrantsUndenied, Grantable, GrantsAt, Allowed, DeniesFirst}
+use Rattle.judge.specs.Laws.Pairs.{order}
+use Rattle.clists.specs.Laws.Lists.{list-alive}
+use Rattle.judge.specs.Laws.Deciding.{says, Decides, frame-cases, frame-at, frame-none, verdict-granted, granted-verdict, verdict-passed, passed-verdict, verdict-undenied, grant-verdict, judged-by}
 use Rattle.judge.specs.declared.Target.{Target}
 use Rattle.judge.specs.declared.Verdict.{Verdict}
 use Rattle.judge.specs.declared.Judgement.{Judgement}
 use Rattle.judge.specs.declared.Judgement.the-variants.{Granted, Refused}
 
--- The pair at address `a` stands in the Clist of a live slot and grants the wanted rights on the object, and each pair before it is passed over.
-pub record GrantsAt (t : Table) (words : List ℕ) (f : Frame) (o : Object) (wanted a : ℕ) : Type 0 where
-  pub slot : ℕ
-  pub place : ℕ
-  pub in-frame : slot < 8
-  pub standing : slot < f .count
-  pub alive : live t (slotAt f slot) ≡ true
-  pub in-list : place < pairsAt t words f slot
-  pub address : a ≡ addressAt f slot place
-  pub granting : grants (modeAt t words f o slot place) wanted ≡ true
-  pub before : EachBefore t words f o (PassedOver wanted) slot place
-
--- An object is asked for that stands, some right is wanted, and the pair at `a` is the first to decide, and grants.
-pub record Allowed (t : Table) (words : List ℕ) (f : Frame) (target : Target) (wanted a : ℕ) : Type 0 where
-  pub stands : free (targeted t target) ≡ false
-  pub some-right : eqb wanted 0 ≡ false
-  pub pair : GrantsAt t words f (targeted t target) wanted a
-
--- The pair at `slot` and `place` grants, and no pair before it denies.
-pub record GrantsUndenied (t : Table) (words : List ℕ) (f : Frame) (o : Object) (wanted slot place : ℕ) : Type 0 where
-  pub in-frame : slot < 8
-  pub in-list : place < pairsAt t words f slot
-  pub granting : grants (modeAt t words f o slot place) wanted ≡ true
-  pub undenied : EachBefore t words f o (λ mode. denies mode wanted ≡ false) slot place
-
--- Some pair denies, and no pair before it grants.
-pub record DeniesFirst (t : Table) (words : List ℕ) (f : Frame) (o : Object) (wanted : ℕ) : Type 0 where
-  pub slot : ℕ
-  pub place : ℕ
-  pub in-frame : slot < 8
-  pub in-list : place < pairsAt t words f slot
-  pub denying : denies (modeAt t words f o slot place) wanted ≡ true
-  pub ungranted : EachBefore t words f o (λ mode. grants mode wanted ≡ false) slot place
-
--- The judgement grants, by a pair that comes no later than that at `slot` and `place`.
-pub record GrantedBy (t : Table) (words : List ℕ) (f : Frame) (target : Target) (wanted slot place : ℕ) : Type 0 where
-  pub at : ℕ
-  pub judgement : judged t words f target wanted ≡ Granted at
-  pub pair : GrantsAt t words f (targeted t target) wanted at
-  pub no-later : NotAfter (pair .slot) (pair .place) slot place
-
 module _ (t : Table) (words : List ℕ) (f : Frame) (o : Object) (wanted : ℕ) where
   grants-decides : (a : ℕ) → GrantsAt t words f o wanted a → Decides t words f o wanted (Verdict.Granted a)
   unfolding pairVerdict
   grants-decides a g =
-      let e = granted-verdict (modeAt t words f o (g .slot) (g .place)) wanted (addressAt f (g .slot) (g .place)) (g .granting) in
+      let p = g .in-clist in
+      let e = granted-verdict (modeAt t words f o (p .slot) (p .place)) wanted (addressAt f (p .slot) (p .place)) (g .granting) in
       record {
-        slot = g .slot;
-        place = g .place;
-        in-frame = g .in-frame;
-        in-list = g .in-list;
-        there = e ∙ ap Verdict.Granted (sym (g .address));
+        slot = p .slot;
+        place = p .place;
+        in-frame = p .in-frame;
+        in-list = p .in-list;
+        there = e ∙ ap Verdict.Granted (sym (p .address));
         deciding = ap decides e;
         before = λ i j b l. passed-verdict _ wanted _ (g .before i j b l);
       }
@@ -85,13 +46,15 @@ module _ (t : Table) (words : List ℕ) (f : Frame) (o : Object) (wanted : ℕ) 
   decides-grants a d e h =
       let alive = list-alive t words f (d .slot) (omega arith) in
       record {
-        slot = d .slot;
-        place = d .place;
-        in-frame = d .in-frame;
-        standing = alive .0;
-        alive = alive .1;
-        in-list = d .in-list;
-        address = e;
+        in-clist = record {
+          slot = d .slot;
+          place = d .place;
+          in-frame = d .in-frame;
+          in-use = alive .0;
+          alive = alive .1;
+          in-list = d .in-list;
+          address = e;
+        };
         granting = h;
         before = λ i j b l. verdict-passed _ wanted _ (d .before i j b l);
       }
@@ -106,9 +69,35 @@ module _ (t : Table) (words : List ℕ) (f : Frame) (o : Object) (wanted : ℕ) 
       by : {v : Verdict} → Decides t words f o wanted v → v ≡ Verdict.Granted a → GrantsAt t words f o wanted a
       by d h = let v = verdict-granted (modeAt t words f o (d .slot) (d .place)) wanted _ a (d .there ∙ h) in decides-grants a d (v .0) (v .1)
 
+  -- where some pair grants, and no pair before it denies, the first pair to decide grants: it is that pair or one before it
+  undenied-first : (at : ℕ) → GrantsUndenied t words f o wanted at → (a : ℕ) × GrantsAt t words f o wanted a
+  unfolding pairVerdict
+  undenied-first at u =
+      ⊎-elim (λ d. by d (no-later d)) (λ n. absurd (true≢false (sym itself ∙ n (p .slot) (p .place) (p .in-frame) (p .in-list)))) (frame-cases t words f o wanted)
+    where
+      p : PairAt t words f at
+      p = u .in-clist
+
+      itself : decides (says t words f o wanted (p .slot) (p .place)) ≡ true
+      itself = ap decides (granted-verdict (modeAt t words f o (p .slot) (p .place)) wanted (addressAt f (p .slot) (p .place)) (u .granting))
+
+      no-later : (d : Decides t words f o wanted (frameVerdict t words f o wanted)) → NotAfter (d .slot) (d .place) (p .slot) (p .place)
+      no-later d =
+          ⊎-elim (λ n. n) (λ b. absurd (true≢false (sym itself ∙ d .before (p .slot) (p .place) b (p .in-list)))) (order (d .slot) (d .place) (p .slot) (p .place))
+
+      undenied : (i j : ℕ) → j < pairsAt t words f i → NotAfter i j (p .slot) (p .place) → denies (modeAt t words f o i j) wanted ≡ false
+      undenied i j l (inl b) = u .undenied i j b l
+      undenied i j l (inr e) = never-both (modeAt t words f o i j) wanted (rw (e .0, e .1) (u .granting))
+
+      by : (d : Decides t words f o wanted (frameVerdict t words f o wanted)) → NotAfter (d .slot) (d .place) (p .slot) (p .place)
+          → (a : ℕ) × GrantsAt t words f o wanted a
+      by d n =
+          let a = addressAt f (d .slot) (d .place) in
+          let h = verdict-undenied (modeAt t words f o (d .slot) (d .place)) wanted a (d .deciding) (undenied (d .slot) (d .place) (d .in-list) n) in
+          (a, decides-grants a d refl h)
+
 module _ (t : Table) (words : List ℕ) (f : Frame) (target : Target) (wanted : ℕ) where
-  -- EXACTLY WHEN: the judgement grants by the pair at `a` exactly where an object is asked for that stands, some right is wanted, and that
-  -- pair is the first to decide, and grants.
+  -- BY WHICH PAIR: the judgement grants by the pair at `a` exactly where that pair is the first to decide, and grants.
   pub granted-exactly : (a : ℕ) → judged t words f target wanted ≡ Granted a ↔ Allowed t words f target wanted a
   granted-exactly a = (
     λ h. allowed (free (targeted t target)) (eqb wanted 0) refl refl (sym (judged-by t words f target wanted) ∙ h),
@@ -124,66 +113,49 @@ module _ (t : Table) (words : List ℕ) (f : Frame) (target : Target) (wanted : 
       allowed false false p q e =
           record { stands = p; some-right = q; pair = verdict-exactly t words f (targeted t target) wanted a .0 (grant-verdict _ a e) }
 
-  -- It refuses exactly where no pair grants so.
-  pub refused-exactly : judged t words f target wanted ≡ Refused ↔ ((a : ℕ) → Allowed t words f target wanted a → ⊥)
-  refused-exactly = (
-    λ h a x. let e = granted-exactly a .1 x in let z : _≡_ {A = ℕ} 0 1 = cc in omega arith,
+  -- DEMAND 2: access is granted exactly where a pair with all the wanted rights stands in a live list with no denying pair before it.
+  pub granted-when : ((a : ℕ) × (judged t words f target wanted ≡ Granted a)) ↔ Grantable t words f target wanted
+  granted-when = (λ g. grantable (g .0) (granted-exactly (g .0) .0 (g .1)), granted)
+    where
+      grantable : (a : ℕ) → Allowed t words f target wanted a → Grantable t words f target wanted
+      grantable a x =
+          let g = x .pair in
+          record {
+            stands = x .stands;
+            some-right = x .some-right;
+            address = a;
+            pair = record { in-clist = g .in-clist; granting = g .granting; undenied = λ i j b l. g .before i j b l .no-denial };
+          }
+
+      granted : Grantable t words f target wanted → (a : ℕ) × (judged t words f target wanted ≡ Granted a)
+      granted x =
+          let g = undenied-first t words f (targeted t target) wanted (x .address) (x .pair) in
+          (g .0, granted-exactly (g .0) .1 (record { stands = x .stands; some-right = x .some-right; pair = g .1 }))
+
+  -- It is refused exactly where there is none.
+  pub refused-when : judged t words f target wanted ≡ Refused ↔ (Grantable t words f target wanted → ⊥)
+  refused-when = (
+    λ h x. let (a, e) = granted-when .1 x in let z : _≡_ {A = ℕ} 0 1 = cc in omega arith,
     refused _ refl,
   )
     where
-      refused : (j : Judgement) → judged t words f target wanted ≡ j → ((a : ℕ) → Allowed t words f target wanted a → ⊥)
+      refused : (j : Judgement) → judged t words f target wanted ≡ j → (Grantable t words f target wanted → ⊥)
           → judged t words f target wanted ≡ Refused
-      refused (Granted a) e h = absurd (h a (granted-exactly a .0 e))
+      refused (Granted a) e h = absurd (h (granted-when .0 (a, e)))
       refused Refused e h = e
-
-  -- Before the pair that grants, none denies.
-  pub granted-undenied : (a : ℕ) (x : Allowed t words f target wanted a)
-      → GrantsUndenied t words f (targeted t target) wanted (x .pair .slot) (x .pair .place)
-  granted-undenied a x =
-      let g = x .pair in
-      record { in-frame = g .in-frame; in-list = g .in-list; granting = g .granting; undenied = λ i j b l. g .before i j b l .no-denial }
-
-  -- Where some pair grants, and no pair before it denies, the judgement grants, by that pair or by one before it.
-  pub undenied-granted : (slot place : ℕ) → free (targeted t target) ≡ false → eqb wanted 0 ≡ false
-      → GrantsUndenied t words f (targeted t target) wanted slot place → GrantedBy t words f target wanted slot place
-  unfolding pairVerdict decides-grants
-  undenied-granted slot place p q u =
-      ⊎-elim (λ d. by d (no-later d)) (λ n. absurd (true≢false (sym itself ∙ n slot place (u .in-frame) (u .in-list)))) (frame-cases t words f o wanted)
-    where
-      o : Object
-      o = targeted t target
-
-      itself : decides (says t words f o wanted slot place) ≡ true
-      itself = ap decides (granted-verdict (modeAt t words f o slot place) wanted (addressAt f slot place) (u .granting))
-
-      no-later : (d : Decides t words f o wanted (frameVerdict t words f o wanted)) → NotAfter (d .slot) (d .place) slot place
-      no-later d =
-          ⊎-elim (λ n. n) (λ b. absurd (true≢false (sym itself ∙ d .before slot place b (u .in-list)))) (order (d .slot) (d .place) slot place)
-
-      undenied : (i j : ℕ) → j < pairsAt t words f i → NotAfter i j slot place → denies (modeAt t words f o i j) wanted ≡ false
-      undenied i j l (inl b) = u .undenied i j b l
-      undenied i j l (inr e) = never-both (modeAt t words f o i j) wanted (rw (e .0, e .1) (u .granting))
-
-      by : (d : Decides t words f o wanted (frameVerdict t words f o wanted)) → NotAfter (d .slot) (d .place) slot place
-          → GrantedBy t words f target wanted slot place
-      by d n =
-          let a = addressAt f (d .slot) (d .place) in
-          let h = verdict-undenied (modeAt t words f o (d .slot) (d .place)) wanted a (d .deciding) (undenied (d .slot) (d .place) (d .in-list) n) in
-          let g = decides-grants t words f o wanted a d refl h in
-          record { at = a; judgement = granted-exactly a .1 (record { stands = p; some-right = q; pair = g }); pair = g; no-later = n }
 
   -- Where some pair denies, and no pair before it grants, the judgement refuses.
   pub denied-refused : DeniesFirst t words f (targeted t target) wanted → judged t words f target wanted ≡ Refused
-  denied-refused d = refused-exactly .1 (λ a x. clash (x .pair) (order (x .pair .slot) (x .pair .place) (d .slot) (d .place)))
+  denied-refused d = refused-when .1 (λ x. let p = x .pair .in-clist in clash (x .pair) (order (p .slot) (p .place) (d .slot) (d .place)))
     where
-      clash : {a : ℕ} (g : GrantsAt t words f (targeted t target) wanted a)
-          → NotAfter (g .slot) (g .place) (d .slot) (d .place) ⊎ Before (d .slot) (d .place) (g .slot) (g .place) → ⊥
-      clash g (inl (inl b)) = true≢false (sym (g .granting) ∙ d .ungranted (g .slot) (g .place) b (g .in-list))
+      clash : {a : ℕ} (g : GrantsUndenied t words f (targeted t target) wanted a)
+          → NotAfter (g .in-clist .slot) (g .in-clist .place) (d .slot) (d .place) ⊎ Before (d .slot) (d .place) (g .in-clist .slot) (g .in-clist .place) → ⊥
+      clash g (inl (inl b)) = true≢false (sym (g .granting) ∙ d .ungranted _ _ b (g .in-clist .in-list))
       clash g (inl (inr e)) =
           true≢false (sym (d .denying) ∙ never-both (modeAt t words f (targeted t target) (d .slot) (d .place)) wanted (rw (e .0, e .1) at (g .granting)))
-      clash g (inr b) = true≢false (sym (d .denying) ∙ g .before (d .slot) (d .place) b (d .in-list) .no-denial)
+      clash g (inr b) = true≢false (sym (d .denying) ∙ g .undenied (d .slot) (d .place) b (d .in-list))
 
   -- Where no pair grants, the judgement refuses.
   pub ungranted-refused : EachPair t words f (targeted t target) (λ mode. grants mode wanted ≡ false) → judged t words f target wanted ≡ Refused
   ungranted-refused h =
-      refused-exactly .1 (λ a x. true≢false (sym (x .pair .granting) ∙ h (x .pair .slot) (x .pair .place) (x .pair .in-frame) (x .pair .in-list)))
+      refused-when .1 (λ x. let p = x .pair .in-clist in true≢false (sym (x .pair .granting) ∙ h (p .slot) (p .place) (p .in-frame) (p .in-list)))

@@ -19,10 +19,14 @@ use Rattle.soundness.specs.Laws.Passwords.{ordinary-legal}
 use Rattle.state.specs.declared.Object.{Object}
 use Rattle.state.specs.declared.Table.{Table}
 use Rattle.state.specs.declared.Frame.{Frame}
-use Rattle.judge.specs.Search.{named, live, pairMode, targeted}
+use Rattle.clists.specs.Clist.{named}
+use Rattle.judge.specs.Search.{pairMode, targeted}
 use Rattle.judge.specs.Judged.{judged}
-use Rattle.judge.specs.Laws.Pairs.{pairsAt, firstWord, secondWord, addressAt, modeAt, TrueFor, pair-true}
-use Rattle.judge.specs.Laws.Lists.{grants-some, list-at, list-length}
+use Rattle.judge.specs.Pairs.{pairsAt, firstWord, secondWord, addressAt, modeAt, TrueFor}
+use Rattle.judge.specs.Granting.{PairAt}
+use Rattle.judge.specs.Laws.Pairs.{pair-true}
+use Rattle.clists.specs.Laws.Live.{grants-some}
+use Rattle.clists.specs.Laws.Lists.{list-at, list-length}
 use Rattle.judge.specs.Laws.Exactly.{granted-exactly}
 use Rattle.judge.specs.Laws.Local.{pairs-local}
 use Rattle.judge.specs.declared.Target.{Target}
@@ -39,14 +43,13 @@ pub record TruePair (words : List ℕ) (o : Object) (wanted a : ℕ) : Type 0 wh
   pub positive : bit 7 (modeOf o (getD words (a + 1) 0)) ≡ 0
   pub holds : (right : ℕ) → bit right wanted ≡ 1 → bit right (modeOf o (getD words (a + 1) 0)) ≡ 1
 
--- The address is that of a pair in the run of an object that a live slot names.
-pub record InClist (t : Table) (f : Frame) (a : ℕ) : Type 0 where
-  pub slot : ℕ
-  pub in-frame : slot < 8
-  pub standing : slot < f .count
-  pub alive : live t (slotAt f slot) ≡ true
-  pub from : 64 * slotAt f slot .page ≤ a
-  pub to : a + 1 < 64 * (slotAt f slot .page + named t (slotAt f slot) .pages)
+-- The pair at the address lies in the run of the object that its slot names, and its two words are those in the store.
+pub record InClist (t : Table) (words : List ℕ) (f : Frame) (a : ℕ) : Type 0 where
+  pub pair : PairAt t words f a
+  pub first : firstWord t words f (pair .slot) (pair .place) ≡ getD words a 0
+  pub second : secondWord t words f (pair .slot) (pair .place) ≡ getD words (a + 1) 0
+  pub from : 64 * slotAt f (pair .slot) .page ≤ a
+  pub to : a + 1 < 64 * (slotAt f (pair .slot) .page + named t (slotAt f (pair .slot)) .pages)
 
 -- a pair that grants some right is such a capability
 true-pair : (words : List ℕ) (o : Object) (wanted a : ℕ) → free o ≡ false → a + 1 < length words → eqb wanted 0 ≡ false
@@ -89,23 +92,16 @@ module _ (t : Table) (words : List ℕ) (f : Frame) (target : Target) (wanted a 
   pub grant-means : TruePair words (targeted t target) wanted a
   grant-means =
       let x = granted-exactly t words f target wanted a .0 h in
-      let g = x .pair in
-      let w = pair-words t words f (g .slot) (g .place) a (g .in-list) (g .address) in
-      true-pair words (targeted t target) wanted a (x .stands) (w .in-store) (x .some-right) (rw (w .first, w .second) at (g .granting))
+      let p = x .pair .in-clist in
+      let w = pair-words t words f (p .slot) (p .place) a (p .in-list) (p .address) in
+      true-pair words (targeted t target) wanted a (x .stands) (w .in-store) (x .some-right) (rw (w .first, w .second) at (x .pair .granting))
 
   -- It stands in the Clist of a live slot.
-  pub grant-place : InClist t f a
+  pub grant-place : InClist t words f a
   grant-place =
-      let g = granted-exactly t words f target wanted a .0 h .pair in
-      let w = pair-words t words f (g .slot) (g .place) a (g .in-list) (g .address) in
-      record {
-        slot = g .slot;
-        in-frame = g .in-frame;
-        standing = g .standing;
-        alive = g .alive;
-        from = omega (arith, g .address);
-        to = omega (arith, g .address, w .in-run);
-      }
+      let p = granted-exactly t words f target wanted a .0 h .pair .in-clist in
+      let w = pair-words t words f (p .slot) (p .place) a (p .in-list) (p .address) in
+      record { pair = p; first = w .first; second = w .second; from = omega (arith, p .address); to = omega (arith, p .address, w .in-run) }
 
 -- a positive mode with P is that of the registration's password, since an ordinary one has P only beside NOT
 registered-mode : (o : Object) (word d : ℕ) → ObjectBounds o d → bit 4 (modeOf o word) ≡ 1 → bit 7 (modeOf o word) ≡ 0 → o .registration .password ≡ word

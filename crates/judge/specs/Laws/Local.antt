@@ -1,25 +1,24 @@
 -- What a judgement depends on: the pairs of the Clists searched, their modes for the object asked for, and whether it stands.
-use Prim.Native.Nat.{ℕ, _+_, _*_, _<_, _≤_}
+use Prim.Native.Nat.{ℕ, _<_}
 use mathlib.Core.Path.{_≡_, ap, sym, _∙_}
 use mathlib.Core.Bool.{true, true≢false}
 use mathlib.Core.List.{List}
 use mathlib.Core.Logic.{⊎-elim}
 use native.Mathlib.Omega.{arith}
-use lib.ListN.{length, getD}
 use Rattle.bounded.specs.Bools.{same-or-not}
 use Rattle.bounded.specs.Search.{first, first-same}
-use Rattle.state.specs.Places.{slotAt}
 use Rattle.state.specs.Extent.{free}
-use Rattle.state.specs.Lookup.{objectBased}
 use Rattle.state.specs.declared.Object.{Object}
 use Rattle.state.specs.declared.Table.{Table}
 use Rattle.state.specs.declared.Frame.{Frame}
-use Rattle.judge.specs.Search.{named, live, listAt, verdictOf, pairVerdict, decides, listVerdict, slotVerdict, frameVerdict, targeted}
+use Rattle.clists.specs.Clist.{listAt}
+use Rattle.judge.specs.Search.{verdictOf, pairVerdict, decides, listVerdict, slotVerdict, frameVerdict, targeted}
 use Rattle.judge.specs.Judged.{judged}
-use Rattle.judge.specs.Laws.Pairs.{pairsAt, firstWord, secondWord, addressAt, modeAt, EachPair, TrueFor, pair-true}
-use Rattle.judge.specs.Laws.Lists.{grants-some, list-same}
+use Rattle.judge.specs.Pairs.{pairsAt, firstWord, secondWord, addressAt, modeAt, EachPair, TrueFor}
+use Rattle.judge.specs.Laws.Pairs.{pair-true}
+use Rattle.clists.specs.Laws.Live.{grants-some}
 use Rattle.judge.specs.Laws.Deciding.{says, judged-by}
-use Rattle.judge.specs.Laws.Exactly.{refused-exactly}
+use Rattle.judge.specs.Laws.Exactly.{refused-when}
 use Rattle.judge.specs.declared.Target.{Target}
 use Rattle.judge.specs.declared.Verdict.the-variants.{Passed}
 use Rattle.judge.specs.declared.Judgement.the-variants.{Refused}
@@ -71,22 +70,13 @@ module _ (t t′ : Table) (words words′ : List ℕ) (f : Frame) where
         → judged t words f target wanted ≡ judged t′ words′ f target wanted
     same-local e same = lists-local (ap free e) same (λ k i l b. rw e)
 
--- The Clist at a slot depends on the object that the slot names and on the words of that object's run alone.
-pub list-local : (t t′ : Table) (words words′ : List ℕ) (f : Frame) (slot : ℕ) → length words ≡ length words′
-    → objectBased t (slotAt f slot .page) ≡ objectBased t′ (slotAt f slot .page)
-    → ((a : ℕ) → 64 * slotAt f slot .page ≤ a → a < 64 * (slotAt f slot .page + named t (slotAt f slot) .pages) → getD words a 0 ≡ getD words′ a 0)
-    → listAt t words f slot ≡ listAt t′ words′ f slot
-unfolding live
-list-local t t′ words words′ f slot n e h =
-    list-same t t′ words words′ f slot n (λ l. record { alive = rw e; pages = λ a. rw e; content = λ a. h })
-
 module _ (t : Table) (words : List ℕ) (f : Frame) (target : Target) (wanted : ℕ) where
   -- Where each pair of each Clist has the mode 0 for the object asked for, there is no grant.
   pub modeless-refused : EachPair t words f (targeted t target) (λ mode. mode ≡ 0) → judged t words f target wanted ≡ Refused
   modeless-refused h =
-      refused-exactly t words f target wanted .1
-      (λ a x. let g = x .pair in
-      let p = grants-some (modeAt t words f (targeted t target) (g .slot) (g .place)) wanted (x .some-right) (g .granting) in
+      refused-when t words f target wanted .1
+      (λ x. let g = x .pair .in-clist in
+      let p = grants-some (modeAt t words f (targeted t target) (g .slot) (g .place)) wanted (x .some-right) (x .pair .granting) in
       omega (arith, h (g .slot) (g .place) (g .in-frame) (g .in-list)))
 
   -- No true pair, no grant.
@@ -100,8 +90,8 @@ module _ (t : Table) (words : List ℕ) (f : Frame) (target : Target) (wanted : 
 
   -- Rule 4: where no object is asked for, there is no grant.
   pub free-refused : free (targeted t target) ≡ true → judged t words f target wanted ≡ Refused
-  free-refused h = refused-exactly t words f target wanted .1 (λ a x. true≢false (sym h ∙ x .stands))
+  free-refused h = refused-when t words f target wanted .1 (λ x. true≢false (sym h ∙ x .stands))
 
 -- Rule 3: where no right is wanted, there is no grant.
 pub none-wanted : (t : Table) (words : List ℕ) (f : Frame) (target : Target) → judged t words f target 0 ≡ Refused
-none-wanted t words f target = refused-exactly t words f target 0 .1 (λ a x. true≢false (x .some-right))
+none-wanted t words f target = refused-when t words f target 0 .1 (λ x. true≢false (x .some-right))

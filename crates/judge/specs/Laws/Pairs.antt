@@ -1,67 +1,17 @@
--- The words in which the laws of the judgement are said: the pairs of the Clists that a frame's slots name, and their order.
-use Prim.Native.Nat.{ℕ, _+_, _*_, _/_, _<_}
-use mathlib.Core.Path.{_≡_, refl}
+-- A pair that has a mode, and the order of two pairs.
+use Prim.Native.Nat.{ℕ, _/_, _<_}
+use mathlib.Core.Path.{_≡_, refl, sym}
 use mathlib.Core.Bool.{Bool, true, false, cond}
-use mathlib.Core.List.{List}
-use mathlib.Core.Logic.{_⊎_}
+use mathlib.Core.Logic.{_⊎_, inl, inr}
 use native.Mathlib.Omega.{arith}
-use lib.Dec.{eqb}
-use lib.ListN.{length, getD}
-use borrow.Author.Tests.{eqb-true}
-use Rattle.rights.specs.Modes.{grants, denies}
-use Rattle.state.specs.Places.{slotAt}
-use Rattle.state.specs.Lookup.{modeOf, hasPassword}
+use lib.Dec.{ltb, eqb}
+use borrow.Author.Tests.{ltb-true, ltb-false, eqb-true}
+use Rattle.bounded.specs.Bools.{flag}
+use Rattle.state.specs.Lookup.{modeOf}
 use Rattle.state.specs.Laws.Passwords.{mode-has}
 use Rattle.state.specs.declared.Object.{Object}
-use Rattle.state.specs.declared.Table.{Table}
-use Rattle.state.specs.declared.Frame.{Frame}
-use Rattle.judge.specs.Search.{listAt, pairMode}
-
--- how many pairs the Clist at a slot has; none where the slot is not in use or not live
-abbrev pub pairsAt : Table → List ℕ → Frame → ℕ → ℕ
-pairsAt t words f slot = length (listAt t words f slot) / 2
-
--- the first word of the pair at a place of that Clist
-abbrev pub firstWord : Table → List ℕ → Frame → ℕ → ℕ → ℕ
-firstWord t words f slot place = getD (listAt t words f slot) (2 * place) 0
-
--- its second word, the password
-abbrev pub secondWord : Table → List ℕ → Frame → ℕ → ℕ → ℕ
-secondWord t words f slot place = getD (listAt t words f slot) (2 * place + 1) 0
-
--- the address of its first word
-abbrev pub addressAt : Frame → ℕ → ℕ → ℕ
-addressAt f slot place = 64 * slotAt f slot .page + 2 * place
-
--- the mode that the pair has for the object, 0 where it is not true for it
-abbrev pub modeAt : Table → List ℕ → Frame → Object → ℕ → ℕ → ℕ
-modeAt t words f o slot place = pairMode o (firstWord t words f slot place) (secondWord t words f slot place)
-
--- rule 2, by slot and then by place: pair j of slot i comes before the pair at `slot` and `place`
-abbrev pub Before : ℕ → ℕ → ℕ → ℕ → Type 0
-Before i j slot place = (i < slot) ⊎ ((i ≡ slot) × (j < place))
-
--- it comes before that pair, or is that pair
-abbrev pub NotAfter : ℕ → ℕ → ℕ → ℕ → Type 0
-NotAfter i j slot place = Before i j slot place ⊎ ((i ≡ slot) × (j ≡ place))
-
--- the mode of each pair before that at `slot` and `place` has a property
-abbrev pub EachBefore : Table → List ℕ → Frame → Object → (ℕ → Type 0) → ℕ → ℕ → Type 0
-EachBefore t words f o P slot place = (i j : ℕ) → Before i j slot place → j < pairsAt t words f i → P (modeAt t words f o i j)
-
--- the mode of each pair has a property
-abbrev pub EachPair : Table → List ℕ → Frame → Object → (ℕ → Type 0) → Type 0
-EachPair t words f o P = (i j : ℕ) → i < 8 → j < pairsAt t words f i → P (modeAt t words f o i j)
-
--- rule 3, a pair passed over: its mode neither grants nor denies the wanted rights
-pub record PassedOver (wanted mode : ℕ) : Type 0 where
-  pub no-grant : grants mode wanted ≡ false
-  pub no-denial : denies mode wanted ≡ false
-
--- a pair of words is true for the object: it names the base, and shows a password that the object or its registration has
-pub record TrueFor (o : Object) (word password : ℕ) : Type 0 where
-  pub page : word / 256 ≡ o .base
-  pub has : hasPassword o password ≡ true
+use Rattle.judge.specs.Search.{pairMode}
+use Rattle.judge.specs.Pairs.{Before, NotAfter, TrueFor}
 
 -- A pair with a mode is true for the object, and has the mode of its password.
 pub pair-true : (o : Object) (word password : ℕ) → 0 < pairMode o word password
@@ -73,3 +23,19 @@ pair-true o word password h = go (eqb (word / 256) (o .base)) refl h
         → TrueFor o word password × (cond b (modeOf o password) 0 ≡ modeOf o password)
     go true e n = (record { page = eqb-true _ _ e; has = mode-has o password n }, refl)
     go false e n = absurd (omega arith)
+
+-- Of two pairs one comes before the other, or they are the same.
+pub order : (i j slot place : ℕ) → NotAfter i j slot place ⊎ Before slot place i j
+order i j slot place = by-slot (flag (ltb i slot)) (flag (ltb slot i))
+  where
+    by-place : i ≡ slot → (ltb j place ≡ true) ⊎ (ltb j place ≡ false) → (ltb place j ≡ true) ⊎ (ltb place j ≡ false)
+        → NotAfter i j slot place ⊎ Before slot place i j
+    by-place e (inl c) d = inl (inl (inr (e, ltb-true j place c)))
+    by-place e (inr c) (inl d) = inr (inr (sym e, ltb-true place j d))
+    by-place e (inr c) (inr d) = inl (inr (e, omega (arith, ltb-false j place c, ltb-false place j d)))
+
+    by-slot : (ltb i slot ≡ true) ⊎ (ltb i slot ≡ false) → (ltb slot i ≡ true) ⊎ (ltb slot i ≡ false)
+        → NotAfter i j slot place ⊎ Before slot place i j
+    by-slot (inl a) b = inl (inl (inl (ltb-true i slot a)))
+    by-slot (inr a) (inl b) = inr (inl (ltb-true slot i b))
+    by-slot (inr a) (inr b) = by-place (omega (arith, ltb-false i slot a, ltb-false slot i b)) (flag (ltb j place)) (flag (ltb place j))

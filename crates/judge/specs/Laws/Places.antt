@@ -5,7 +5,7 @@ use mathlib.Core.Bool.{true}
 use mathlib.Core.List.{List}
 use lib.ListN.{length}
 use lib.Dec.{eqb}
-use Rattle.rights.specs.Modes.{grants}
+use Rattle.rights.specs.Modes.{read, grants}
 use Rattle.state.specs.Places.{slotAt}
 use Rattle.state.specs.Same.{SameObject, SameObjects}
 use Rattle.state.specs.Laws.Same.{mode-same}
@@ -16,9 +16,10 @@ use Rattle.state.specs.declared.Object.{Object}
 use Rattle.state.specs.declared.Table.{Table}
 use Rattle.state.specs.declared.Frame.{Frame}
 use Rattle.state.specs.declared.State.{State}
-use Rattle.judge.specs.Search.{live, listAt, pairMode, targeted}
+use Rattle.clists.specs.Clist.{live}
+use Rattle.judge.specs.Search.{pairMode, targeted}
 use Rattle.judge.specs.Judged.{judged}
-use Rattle.judge.specs.Laws.Lists.{SameClist, list-same}
+use Rattle.clists.specs.Laws.Lists.{SameClist, list-same}
 use Rattle.judge.specs.Laws.Local.{lists-local}
 use Rattle.judge.specs.declared.Target.{Target}
 use Rattle.judge.specs.declared.Target.the-variants.{Address, Base}
@@ -31,13 +32,11 @@ pair-same m word password = rw (mode-same m password, m .base)
 -- Two tables with the same objects have the same live capabilities.
 pub live-same : (t t′ : Table) → SameObjects t t′ → (c : Capability) → live t c ≡ live t′ c
 unfolding live
-live-same t t′ same c = ap (λ mode. grants mode 1) (same (c .page) .modes (c .password))
+live-same t t′ same c = ap (λ mode. grants mode read) (same (c .page) .modes (c .password))
 
 -- And the same Clists.
-pub lists-same : (t t′ : Table) → SameObjects t t′ → (words : List ℕ) (f : Frame) (slot : ℕ) → listAt t words f slot ≡ listAt t′ words f slot
-lists-same t t′ same words f slot =
-    list-same t t′ words words f slot refl
-    (λ l. record { alive = live-same t t′ same (slotAt f slot); pages = λ a. same (slotAt f slot .page) .pages; content = λ a n b c. refl })
+pub lists-same : (t t′ : Table) → SameObjects t t′ → (words : List ℕ) (c : Capability) → SameClist t t′ words words c
+lists-same t t′ same words c = record { alive = live-same t t′ same c; pages = λ a. same (c .page) .pages; content = λ a n b l. refl }
 
 -- The same object asked for, and the same Clists at the slots in use, give the same judgement.
 pub same-judged : (t t′ : Table) (words words′ : List ℕ) (f : Frame) (target : Target) (wanted : ℕ) → length words ≡ length words′
@@ -56,5 +55,5 @@ module _ (s s′ : State) (h : sound s ≡ true) (h′ : sound s′ ≡ true) (s
   -- STORAGE PLACES DO NOT MATTER: such states judge alike.
   pub places-apart : (words : List ℕ) (f : Frame) (target : Target) (wanted : ℕ) → judged (s .table) words f target wanted ≡ judged (s′ .table) words f target wanted
   places-apart words f target wanted =
-      lists-local (s .table) (s′ .table) words words f target wanted (ap (λ p. eqb p 0) (target-same target .pages))
-      (λ k l. lists-same (s .table) (s′ .table) same words f k) (λ k i l b. pair-same (target-same target) _ _)
+      same-judged (s .table) (s′ .table) words words f target wanted refl (target-same target)
+      (λ k l. lists-same (s .table) (s′ .table) same words (slotAt f k))

@@ -2,7 +2,7 @@ use Prim.Native.Nat.{_-_}
 use native.Mathlib.Omega.{arith}
 use mathlib.Core.Path.{sym, _∙_}
 use lib.ListN.{length}
-use Rattle.lines.specs.Arguments.{Taking, taking-none, taking-more, taking-bad, taking-all}
+use Rattle.lines.specs.Taking.{Taking, taking-none, taking-more, taking-bad, taking-all}
 use Rattle.lines.proofs.Told.{no-number}
 use borrow.Author.Needs.{needs}
 use Rattle.lines.proofs.read_arguments.Statement.{statement}

@@ -3,7 +3,7 @@ use mathlib.Core.Path.{sym, _∙_}
 use lib.ListN.{length, length-take}
 use borrow.Author.Tests.{lt-ltb}
 use Rattle.lines.specs.Grammar.{lineOf}
-use Rattle.lines.specs.Reading.{no-domain, no-letters, no-arguments, all-read}
+use Rattle.lines.specs.Reading.{no-domain, no-letters, unknown-letters, no-arguments, all-read}
 use Rattle.lines.proofs.Told.{no-number}
 use borrow.Author.Needs.{needs}
 use Rattle.lines.proofs.read_line.Statement.{statement}
@@ -21,22 +21,34 @@ read-line-spec =
     let field = domain .before .before in
     let comma = field .before .before in
     no-letters _ (comma .before .if1 .left) (comma .find .ensures .0) (sym (domain .domain .given .1) ∙ field .number .ensures) (c .if2 .taken))
-    (λ c. search needs) (λ c κs. search needs) (λ c. search needs) (λ c. search needs) (λ c. search needs) (λ c κs. search needs) (λ c. search needs) (λ c. search needs) (λ c. search needs) (λ c κs. search needs) (λ c. search needs) (λ c. search needs)
+    (λ c. search needs) (λ c κs. search needs) (λ c. search needs) (λ c. search needs) (λ c. search needs) (λ c κs. search needs) (λ c. search needs) (λ c. search needs)
     (λ c.
-    let read = c .before .before in
-    let next = read .before .before .before .before in
+    let letters = c .before .before in
+    let next = letters .before .before in
     let domain = next .before .before .before in
     let field = domain .before .before in
     let comma = field .before .before in
-    no-arguments _ (comma .before .if1 .left) (comma .find .ensures .0) (sym (domain .domain .given .1) ∙ field .number .ensures) (omega arith) (next .find2 .ensures .0) (sym (c .enum-told .given .1) ∙ read .read-arguments .ensures))
+    unknown-letters _ (comma .before .if1 .left) (comma .find .ensures .0) (sym (domain .domain .given .1) ∙ field .number .ensures) (omega arith) (next .find2 .ensures .0) (sym (c .enum-told .given .1) ∙ letters .letters-of .ensures))
+    (λ c. search needs) (λ c. search needs) (λ c. search needs) (λ c κs. search needs) (λ c. search needs) (λ c. search needs)
+    (λ c.
+    let read = c .before .before in
+    let known = read .before .before .before in
+    let letters = known .before .before in
+    let next = letters .before .before in
+    let domain = next .before .before .before in
+    let field = domain .before .before in
+    let comma = field .before .before in
+    no-arguments _ (comma .before .if1 .left) (comma .find .ensures .0) (sym (domain .domain .given .1) ∙ field .number .ensures) (omega arith) (next .find2 .ensures .0) (sym (known .mnemonic .given .1) ∙ letters .letters-of .ensures)
+    (sym (c .enum-told2 .given .1) ∙ read .read-arguments .ensures))
     (λ c κs. search needs)
     (λ c.
     let read = c .before .before .before .before in
-    let letters = read .before .before in
+    let known = read .before .before .before in
+    let letters = known .before .before in
     let next = letters .before .before in
     let domain = next .before .before .before in
     let field = domain .before .before in
     let comma = field .before .before in
     c .call-of .ensures
-    ∙ rw (letters .letters-of .ensures)
-    (all-read _ (comma .before .if1 .left) (comma .find .ensures .0) (sym (domain .domain .given .1) ∙ field .number .ensures) (omega arith) (next .find2 .ensures .0) (sym (c .before .before .n .given .1) ∙ read .read-arguments .ensures))))
+    ∙ all-read _ (comma .before .if1 .left) (comma .find .ensures .0) (sym (domain .domain .given .1) ∙ field .number .ensures) (omega arith) (next .find2 .ensures .0) (sym (known .mnemonic .given .1) ∙ letters .letters-of .ensures)
+    (sym (c .before .before .n .given .1) ∙ read .read-arguments .ensures)))

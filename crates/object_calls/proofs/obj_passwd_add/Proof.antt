@@ -30,7 +30,7 @@ obj-passwd-add-spec =
       s .found,
       ← h .before .object-based .ensures,
       sym (h .has-password .ensures) ∙ k .before .if2 .left,
-      ← k .place-of .ensures,
+      ← k .free-password-place .ensures,
       le-ltb _ _ (c .before .if3 .taken),
     ))
     (c .unaltered4 .ensures))
@@ -44,7 +44,7 @@ obj-passwd-add-spec =
       s .found,
       ← h .before .object-based .ensures,
       sym (h .has-password .ensures) ∙ k .before .if2 .left,
-      ← k .place-of .ensures,
+      ← k .free-password-place .ensures,
       lt-ltb _ _ (c .before .before .if3 .left),
     ))
     (λ v s. rw (s .found, ← h .before .object-based .ensures, ← c .before .add-password .ensures)) (c .becomes .ensures)))

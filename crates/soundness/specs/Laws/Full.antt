@@ -7,10 +7,10 @@ use native.Mathlib.Omega.{arith}
 use lib.Dec.{ltb, eqb}
 use borrow.Author.Tests.{ltb-true, ltb-false, lt-ltb, eqb-true, eqb-false, eq-eqb}
 use Rattle.bounded.specs.Bools.{and-both, cond-ind, same-or-not}
-use Rattle.bounded.specs.Place.{Found, Missing, search-cases, placeFor}
+use Rattle.bounded.specs.Place.{PlaceFound, PlaceMissing, search-cases, placeFor}
 use Rattle.state.specs.Places.{freeObject, passwordAt, objectAt, estateAt}
 use Rattle.state.specs.Extent.{free}
-use Rattle.state.specs.Lookup.{hasBase, based, placeBased, objectBased, freePlace, placeOf, ordinaryMode}
+use Rattle.state.specs.Lookup.{hasBase, based, placeBased, objectBased, freePlace, placeOf, freePasswordPlace, ordinaryMode}
 use Rattle.state.specs.Same.{SameObject, SameObjects}
 use Rattle.state.specs.Laws.Extent.{zero-not, not-zero}
 use Rattle.state.specs.Laws.Lookup.{found-or-free, Stands, place-stands, none-stands, place-bound, pages-stands, base-covers, base-single}
@@ -58,7 +58,7 @@ onto : (n : ℕ) (p : ℕ → ℕ) → ((i : ℕ) → i < n → p i < n) → ((i
 onto ℕ.zero p within different k l = absurd (omega arith)
 onto (suc n) p within different k l = go (search-cases (λ i. eqb (p i) k) (suc n))
   where
-    go : Found (λ i. eqb (p i) k) (suc n) ⊎ Missing (λ i. eqb (p i) k) (suc n) → (i : ℕ) × (i < suc n) × (p i ≡ k)
+    go : PlaceFound (λ i. eqb (p i) k) (suc n) ⊎ PlaceMissing (λ i. eqb (p i) k) (suc n) → (i : ℕ) × (i < suc n) × (p i ≡ k)
     go (inl f) = (placeFor (λ i. eqb (p i) k) (suc n), f .within, eqb-true _ k (f .passes))
     go (inr m) =
         absurd (crowded n (λ i. skip k (p i)) (λ i a. skip-below k (p i) n l (within i a) (eqb-false (p i) k (m .none i a)))
@@ -79,8 +79,8 @@ room-same n p q a b f g =
     (λ h. let l = ltb-true q n h in ⊎-elim (λ e. absurd (omega (arith, f e))) (λ ne. lt-ltb p n (omega arith)) (same-or-not p n))
 
 -- the same object has no place free for a password where the other has none
-full-password : (o o′ : Object) (d : ℕ) → ObjectBounds o d → SameObject o o′ → placeOf o 0 ≡ 4 → placeOf o′ 0 ≡ 4
-full-password o o′ d b m full = ⊎-elim (λ e. e) (λ ne. absurd (none (ordinary-place o′ 0 (omega (arith, place-of-bound o′ 0))))) (same-or-not (placeOf o′ 0) 4)
+full-password : (o o′ : Object) (d : ℕ) → ObjectBounds o d → SameObject o o′ → freePasswordPlace o ≡ 4 → freePasswordPlace o′ ≡ 4
+full-password o o′ d b m full = ⊎-elim (λ e. e) (λ ne. absurd (none (ordinary-place o′ 0 (omega (arith, place-of-bound o′ 0))))) (same-or-not (freePasswordPlace o′) 4)
   where
     word : ℕ → ℕ
     word i = passwordAt o i .word
@@ -97,13 +97,13 @@ full-password o o′ d b m full = ⊎-elim (λ e. e) (λ ne. absurd (none (ordin
     none r =
         let (i, l, e) = all-taken 4 word (λ k. passwordAt o′ k .word) (λ i. placeOf o′ (word i)) (λ i l. there i l .within) (λ i l. there i l .there)
         (λ i j l n e. sym (ordinary-only o (word i) i (b .different) (some i l) l refl) ∙ ap (placeOf o) e ∙ ordinary-only o (word j) j (b .different) (some j n) n refl)
-        (placeOf o′ 0) (r .within) in
+        (freePasswordPlace o′) (r .within) in
         omega (arith, some i l, there i l .there, r .there, ap (λ k. passwordAt o′ k .word) e)
 
 -- the same object has a place free for a password or not, wherever its passwords are stored
-pub password-room-same : (o o′ : Object) (d d′ : ℕ) → ObjectBounds o d → ObjectBounds o′ d′ → SameObject o o′ → ltb (placeOf o 0) 4 ≡ ltb (placeOf o′ 0) 4
+pub password-room-same : (o o′ : Object) (d d′ : ℕ) → ObjectBounds o d → ObjectBounds o′ d′ → SameObject o o′ → ltb (freePasswordPlace o) 4 ≡ ltb (freePasswordPlace o′) 4
 password-room-same o o′ d d′ b b′ m =
-    room-same 4 (placeOf o 0) (placeOf o′ 0) (place-of-bound o 0) (place-of-bound o′ 0) (full-password o o′ d b m) (full-password o′ o d′ b′ (same-sym m))
+    room-same 4 (freePasswordPlace o) (freePasswordPlace o′) (place-of-bound o 0) (place-of-bound o′ 0) (full-password o o′ d b m) (full-password o′ o d′ b′ (same-sym m))
 
 -- two sound estates with the same objects
 pub record Alike (d : ℕ) (e e′ : Estate) : Type 0 where

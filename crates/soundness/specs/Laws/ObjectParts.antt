@@ -105,7 +105,3 @@ covers-estate o d page h c =
     let r = covers-parts o page c in
     let b = object-parts o d h .bounds (omega arith) in
     omega arith
-
--- a standing object ends at page 128 or before
-pub object-end : (o : Object) (d : ℕ) → d < 4 → objectOk o d ≡ true → 0 < o .pages → o .base + o .pages ≤ 128
-object-end o d l h p = let b = object-parts o d h .bounds p in omega arith

@@ -13,10 +13,11 @@ use Rattle.bounded.specs.Fill.{tabulate-set}
 use Rattle.rights.specs.Modes.{legal}
 use Rattle.state.specs.Places.{noPassword, freeRegistration, freeObject, passwordAt}
 use Rattle.state.specs.Extent.{covers}
-use Rattle.state.specs.Lookup.{placeOf, hasPassword}
+use Rattle.state.specs.Lookup.{placeOf, freePasswordPlace, hasPassword}
 use Rattle.state.specs.Update.{newObject, withPasswords, withRegistration, addPassword, dropPassword}
 use Rattle.state.specs.Laws.Extent.{not-zero}
 use Rattle.state.specs.Laws.Passwords.{has-none}
+use Rattle.state.specs.Laws.PutPassword.{putPassword}
 use Rattle.soundness.specs.Sound.{absent, distinct, allPasswords, entryOk, registrationOk, objectOk}
 use Rattle.soundness.specs.Laws.Distinct.{absent-tabulate, distinct-set}
 use Rattle.soundness.specs.Laws.ObjectParts.{RegistrationSound, parts-registration, object-parts, parts-object}
@@ -93,11 +94,16 @@ password-sound o d i p m n h =
           };
     })
 
--- a password more, one that the object does not have
+-- a password more, one that the object does not have, at whichever place
+pub put-sound : (o : Object) (d word mode k : ℕ) → hasPassword o word ≡ false → legal mode ≡ true → objectOk o d ≡ true
+    → objectOk (putPassword o k (record { word = word; mode = mode })) d ≡ true
+put-sound o d word mode k n m h = password-sound o d k _ (λ p. m) (new-word o word n) h
+
+-- so at the first free one
 pub add-sound : (o : Object) (d word mode : ℕ) → hasPassword o word ≡ false → legal mode ≡ true → objectOk o d ≡ true
     → objectOk (addPassword o word mode) d ≡ true
 unfolding addPassword
-add-sound o d word mode n m h = password-sound o d (placeOf o 0) _ (λ p. m) (new-word o word n) h
+add-sound o d word mode = put-sound o d word mode (freePasswordPlace o)
 
 -- another registration, whose password the object does not have; one with the password 0 is none
 pub register-sound : (o : Object) (d : ℕ) (g : Registration) → length (g .entries) ≡ 4 → hasPassword o (g .password) ≡ false

@@ -7,12 +7,11 @@ use native.Mathlib.Omega.{arith}
 use lib.Dec.{eqb}
 use borrow.Author.Tests.{eqb-false, ne-eqb}
 use Rattle.state.specs.Places.{noPassword, freeRegistration, passwordAt}
-use Rattle.state.specs.Lookup.{placeOf, hasPassword}
+use Rattle.state.specs.Lookup.{placeOf, freePasswordPlace, hasPassword}
 use Rattle.state.specs.Same.{SameObject}
 use Rattle.state.specs.Update.{withRegistration, addPassword, dropPassword}
 use Rattle.state.specs.Laws.Extent.{zero-not}
 use Rattle.state.specs.Laws.Passwords.{Ordinary, ordinary-place, has-parts, has-none}
-use Rattle.state.specs.Laws.Same.{same-refl}
 use Rattle.state.specs.Laws.PutPassword.{WordRoom, putPassword, put-word-same, register-same}
 use Rattle.soundness.specs.Sound.{objectOk}
 use Rattle.soundness.specs.Laws.Passwords.{ordinary-only}
@@ -32,12 +31,6 @@ new-room o d word k h p n within z =
       before = λ other a ne. ne-eqb _ other (λ e. omega arith);
     }
 
--- EVERY FREE PLACE SERVES: a new password leaves the same object, at whichever free place it is put.
-pub any-word-place : (o : Object) (d word mode k k′ : ℕ) → objectOk o d ≡ true → 0 < word → hasPassword o word ≡ false → k < 4 → passwordAt o k .word ≡ 0
-    → k′ < 4 → passwordAt o k′ .word ≡ 0 → SameObject (putPassword o k (record { word = word; mode = mode })) (putPassword o k′ (record { word = word; mode = mode }))
-any-word-place o d word mode k k′ h p n a z a′ z′ =
-    put-word-same o o k k′ word _ (new-room o d word k h p n a z) (new-room o d word k′ h p n a′ z′) (λ x. refl) (same-refl o)
-
 -- the place of an ordinary password is one for it
 old-room : (o : Object) (d word : ℕ) → objectOk o d ≡ true → 0 < o .pages → 0 < word → Ordinary o word → WordRoom o (placeOf o word) word
 old-room o d word h s p r =
@@ -51,13 +44,19 @@ old-room o d word h s p r =
     }
 
 module _ (o o′ : Object) (d word : ℕ) (h : objectOk o d ≡ true) (h′ : objectOk o′ d ≡ true) (m : SameObject o o′) where
-  -- A password more, a new one where there is a place, leaves the same object.
-  pub add-same : (mode : ℕ) → 0 < word → hasPassword o word ≡ false → hasPassword o′ word ≡ false → placeOf o 0 < 4 → placeOf o′ 0 < 4
+  -- EVERY FREE PLACE SERVES: a new password, at whichever free places it is put, leaves the same object.
+  pub any-word-place : (mode k k′ : ℕ) → 0 < word → hasPassword o word ≡ false → hasPassword o′ word ≡ false → k < 4 → passwordAt o k .word ≡ 0
+      → k′ < 4 → passwordAt o′ k′ .word ≡ 0
+      → SameObject (putPassword o k (record { word = word; mode = mode })) (putPassword o′ k′ (record { word = word; mode = mode }))
+  any-word-place mode k k′ p n n′ a z a′ z′ =
+      put-word-same o o′ k k′ word _ (new-room o d word k h p n a z) (new-room o′ d word k′ h′ p n′ a′ z′) (λ x. refl) m
+
+  -- so at the first, where there is one
+  pub add-same : (mode : ℕ) → 0 < word → hasPassword o word ≡ false → hasPassword o′ word ≡ false → freePasswordPlace o < 4 → freePasswordPlace o′ < 4
       → SameObject (addPassword o word mode) (addPassword o′ word mode)
   unfolding addPassword
   add-same mode p n n′ room room′ =
-      put-word-same o o′ (placeOf o 0) (placeOf o′ 0) word _ (new-room o d word _ h p n room (ordinary-place o 0 room .there))
-      (new-room o′ d word _ h′ p n′ room′ (ordinary-place o′ 0 room′ .there)) (λ x. refl) m
+      any-word-place mode (freePasswordPlace o) (freePasswordPlace o′) p n n′ room (ordinary-place o 0 room .there) room′ (ordinary-place o′ 0 room′ .there)
 
   -- A password less leaves the same object.
   pub drop-same : 0 < o .pages → hasPassword o word ≡ true → hasPassword o′ word ≡ true → SameObject (dropPassword o word) (dropPassword o′ word)

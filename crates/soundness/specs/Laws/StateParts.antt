@@ -66,10 +66,6 @@ parts-state s h =
     and-both (and-both (eq-eqb _ 4 (h .long-estates)) (eq-eqb _ 4 (h .long-domains)))
     (below-all 4 (soundAt s) (λ d l. and-both (h .estate d l) (h .domain d l)))
 
--- the object at a place of a sound state is sound
-pub object-sound : (s : State) (d k : ℕ) → sound s ≡ true → d < 4 → k < 8 → objectOk (objectAt (estateAt (s .table) d) k) d ≡ true
-object-sound s d k h l m = estate-parts _ d (state-parts s h .estate d l) .object k m
-
 -- the objects at two places of a sound estate are apart
 pub estate-apart : (e : Estate) (d i j : ℕ) → estateOk e d ≡ true → i < 8 → j < 8 → (i ≡ j → ⊥) → apart (objectAt e i) (objectAt e j) ≡ true
 estate-apart e d i j h l m ne = go (ltb i j) refl

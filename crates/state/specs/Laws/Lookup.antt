@@ -6,7 +6,7 @@ use mathlib.Core.Logic.{_⊎_, inl, inr, ⊎-elim}
 use native.Mathlib.Omega.{arith}
 use borrow.Author.Tests.{le-leb, le-ltb, eqb-true, not-true}
 use Rattle.bounded.specs.Bools.{flag, and-left, and-right, same-or-not}
-use Rattle.bounded.specs.Place.{Found, Missing, search-cases, found-below, missing-end, found-some, search-value, search-none}
+use Rattle.bounded.specs.Place.{PlaceFound, PlaceMissing, search-cases, found-below, missing-end, found-some, search-value, search-none}
 use Rattle.bounded.specs.Search.{first}
 use Rattle.state.specs.Places.{noObject, noEstate, freeObject, objectAt, estateOf}
 use Rattle.state.specs.Extent.{free, covers, apart}
@@ -50,7 +50,7 @@ module _ (test : Object → Bool) (e : Estate) where
   pub pages-stands : 0 < objectWhere test e .pages → Stands test e
   pages-stands p = go (search-cases at 8)
     where
-      go : Found at 8 ⊎ Missing at 8 → Stands test e
+      go : PlaceFound at 8 ⊎ PlaceMissing at 8 → Stands test e
       go (inl f) = place-stands (f .within)
       go (inr m) = let q : 0 < freeObject .pages = rw (none-found (m .end)) at p in absurd (omega arith)
 
@@ -61,11 +61,6 @@ module _ (test : Object → Bool) (e : Estate) where
 -- a test that no free object passes
 abbrev pub Standing : (Object → Bool) → Type 0
 Standing test = (o : Object) → test o ≡ true → 0 < o .pages
-
--- where such a test finds a free object, no object passes
-pub free-none : (test : Object → Bool) → Standing test → (e : Estate) → objectWhere test e .pages ≡ 0
-    → (k : ℕ) → k < 8 → test (objectAt e k) ≡ false
-free-none test pages e z k l = ⊎-elim (λ h. absurd (omega (arith, pages _ (some-stands test e k l h .passes)))) (λ h. h) (flag (test (objectAt e k)))
 
 -- a test that no two objects pass which are apart
 abbrev pub Single : (Object → Bool) → Type 0

@@ -8,7 +8,7 @@ use native.Mathlib.Omega.{arith}
 use lib.ListN.{length, getD, set}
 use lib.Seq.{getD-set-same, getD-set-other}
 use Rattle.bounded.specs.Search.{first, first-at, first-none}
-use Rattle.bounded.specs.Place.{placeFor, Found, Missing, search-cases, search-value, search-none}
+use Rattle.bounded.specs.Place.{placeFor, PlaceFound, PlaceMissing, search-cases, search-value, search-none}
 use Rattle.bounded.specs.Every.{set-each}
 
 module _ {A B : Type 0} (test : A → Bool) (value : A → B) (none : B) (n : ℕ) (d : A) where
@@ -44,7 +44,7 @@ module _ {A B : Type 0} (test : A → Bool) (value : A → B) (none : B) (n : �
       p : ℕ
       p = placeFor (λ j. test (getD l j d)) n
 
-      go : Found (λ j. test (getD l j d)) n ⊎ Missing (λ j. test (getD l j d)) n → lookFor (set l k v) ≡ lookFor l
+      go : PlaceFound (λ j. test (getD l j d)) n ⊎ PlaceMissing (λ j. test (getD l j d)) n → lookFor (set l k v) ≡ lookFor l
       go (inl f) =
           let ne : (p ≡ k → ⊥) = λ e. true≢false (sym (f .passes) ∙ rw e old) in
           first-at _ _ none 0 n (lookFor l)

@@ -10,5 +10,5 @@ put-digits-spec =
     (tie.spec (λ old at n k rest₀ i₀ out rest i. Spelling old at n k out rest i) (λ old at n k rest₀ i₀ out rest i. i) (λ c. spelling-none) (λ c. search needs) (λ c. search needs) (λ c. search needs)
     (λ c. search needs) (λ c. search needs) (λ c. search needs)
     (λ c. spelling-more (c .before .loop .inv) (c .before .before .pre) (c .loop-test .taken))
-    (λ c. search needs) (λ c. c .before .loop .inv .kept)
+    (λ c. search needs) (λ c. c .before .loop .inv .same-length)
     (λ c. (spelling-all (c .before .loop .inv) (c .before .before .pre) (c .loop-test .left), refl)))

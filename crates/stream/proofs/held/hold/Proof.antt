@@ -3,7 +3,7 @@ use mathlib.Core.Path.{_≡_}
 use lib.ListN.{length, take}
 use native.Mathlib.Omega.{arith}
 use Rattle.bounded.specs.Folds.{Folding, folding-none, folding-more, folding-all}
-use Rattle.stream.specs.Held.{heldByte}
+use Rattle.stream.specs.Feed.{heldByte}
 use borrow.Author.Needs.{needs}
 use Rattle.stream.proofs.held.hold.Statement.{statement}
 use Rattle.stream.proofs.held.hold.Tie as tie

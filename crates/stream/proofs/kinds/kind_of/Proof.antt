@@ -6,5 +6,5 @@ use Rattle.stream.proofs.kinds.kind_of.Tie as tie
 pub kind-of-spec : {M : Type 1} → statement M
 kind-of-spec =
     tie.close
-    (tie.spec (λ c. search needs) (λ c. unread-kind _ (c .enum-told .given .1)) (λ c. search needs) (λ c. tt) (λ c. search needs) (λ c κs. search needs)
-    (λ c. rw (c .before .before .reading .given .1) (c .call-kind .ensures)))
+    (tie.spec (λ c. search needs) (λ c. unread-kind _ (c .enum-told .given .1)) (λ c. search needs) (λ c. c .before .reading .given .1) (λ c. search needs) (λ c κs. search needs)
+    (λ c. rw (c .before .before .reading2 .given .1) (c .call-kind .ensures)))

@@ -1,0 +1,3 @@
+pub mod Clist
+pub mod Opening
+pub mod Laws
