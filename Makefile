@@ -1,21 +1,27 @@
 MONITOR = target/bin/monitor
 CALLS = examples/booking.calls
 
-.PHONY: help test run compare bench
+.PHONY: help test run explain compare bench
 help:
-	@echo 'make run [CALLS=FILE]   answers examples/booking.calls, or the call lines in FILE'
-	@echo 'make test               the gate: proves every crate from nothing, tries the must-fail edits, and runs the second implementation beside the program'
-	@echo 'make compare            runs the second implementation beside the program, without the proofs'
-	@echo 'make bench              counts instructions and times of the program beside the second implementation'
+	@echo 'make run [CALLS=FILE]      answers examples/booking.calls, or the call lines in FILE'
+	@echo 'make explain [CALLS=FILE]  the same, each line beside its answer in words'
+	@echo 'make test                  the gate: proves every crate from nothing, tries the must-fail edits, and runs the second implementation beside the program'
+	@echo 'make compare               runs the second implementation beside the program, without the proofs'
+	@echo 'make bench                 counts instructions and times of the program beside the second implementation'
 	@echo 'All but test build the program only where it is missing or older than its code. make MONITOR=FILE .. takes another program.'
 
 test:
 	@# Only the crate judge and the module that computes examples may open the judgement.
 	@! grep -rl 'Judged\.Inside' crates --include=*.antt | grep -v -e '^crates/judge/' -e '^crates/cases/specs/Runs\.antt$$'
+	@# The examples open it by the name by-search; no other crate may use that.
+	@! grep -rl 'by-search' crates --include=*.antt | grep -v -e '^crates/cases/' -e '^crates/isolation_examples/'
 	@tests/run $(MONITOR)
 
 run: $(MONITOR)
 	@$(MONITOR) < $(CALLS)
+
+explain: $(MONITOR)
+	@$(MONITOR) < $(CALLS) | tests/cargo run --release --offline --quiet --bin explain -- $(abspath $(CALLS))
 
 compare: $(MONITOR)
 	@tests/beside $(MONITOR)

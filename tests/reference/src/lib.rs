@@ -4,6 +4,7 @@ pub mod cases;
 pub mod compare;
 pub mod coverage;
 pub mod damage;
+pub mod explain;
 pub mod generate;
 pub mod inputs;
 pub mod lines;

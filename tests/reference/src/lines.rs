@@ -52,7 +52,16 @@ pub fn read(line: &[u8]) -> Option<(u64, Call)> {
     let domain = number(fields.next()?)?;
     let letters = fields.next()?;
     let numbers: Vec<u64> = fields.map(number).collect::<Option<_>>()?;
-    let call = match (letters, &numbers[..]) {
+    Some((domain, call_of(letters, &numbers)?))
+}
+
+fn capability(page: u64, password: u64) -> Capability {
+    Capability { page, password }
+}
+
+/// The call of these letters with these arguments.
+fn call_of(letters: &[u8], numbers: &[u64]) -> Option<Call> {
+    Some(match (letters, numbers) {
         (b"BT", &[a, b, c, d]) => Call::Bt {
             homes: [a, b, c, d],
         },
@@ -75,15 +84,12 @@ pub fn read(line: &[u8]) -> Option<(u64, Call)> {
         (b"RG", &[base, password, page, word, ref entries @ ..]) => Call::Rg {
             base,
             password,
-            list: Capability {
-                page,
-                password: word,
-            },
+            list: capability(page, word),
             entries: entries.to_vec(),
         },
         (b"IN", &[slot, page, password]) => Call::In {
             slot,
-            list: Capability { page, password },
+            list: capability(page, password),
         },
         (b"RM", &[slot]) => Call::Rm { slot },
         (b"GT", &[]) => Call::Gt,
@@ -91,8 +97,15 @@ pub fn read(line: &[u8]) -> Option<(u64, Call)> {
         (b"CA", &[address, choice]) => Call::Ca { address, choice },
         (b"RT", &[]) => Call::Rt,
         _ => return None,
-    };
-    Some((domain, call))
+    })
+}
+
+/// The readable calls of an input.
+pub fn calls(input: &[u8]) -> Vec<(u64, Call)> {
+    let lines = input.split_inclusive(|&b| b == b'\n');
+    lines
+        .filter_map(|line| read(line.strip_suffix(b"\n")?))
+        .collect()
 }
 
 /// Take the next line into `line`. `None` at the end of the input, else

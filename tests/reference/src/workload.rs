@@ -54,52 +54,63 @@ pub fn entry(d: u64) -> u64 {
 pub fn stage() -> Vec<Line> {
     let mut lines = vec![Line::new(0, "BT", &[home(0), home(1), home(2), home(3)])];
     for d in 0..DOMAINS as u64 {
-        lines.push(Line::new(d, "CR", &[base(d, CLIST), 2, clist_password(d)]));
-        lines.push(Line::new(
-            d,
-            "CR",
-            &[base(d, SERVICE), 1, service_password(d)],
-        ));
-        for page in DATA {
-            lines.push(Line::new(
-                d,
-                "CR",
-                &[base(d, page), 1, data_password(d, page)],
-            ));
-        }
-        // The home Clist owns the domain's Clist and service.
-        let start = base(d, 0) * PAGE_WORDS;
-        let own = [
-            (base(d, CLIST), clist_password(d)),
-            (base(d, SERVICE), service_password(d)),
-        ];
-        for (i, (page, password)) in own.into_iter().enumerate() {
-            let at = start + 2 + 2 * i as u64;
-            lines.push(Line::new(d, "WR", &[at, page * 256 + OWNER]));
-            lines.push(Line::new(d, "WR", &[at + 1, password]));
-        }
-        let args = [base(d, CLIST), clist_password(d)];
-        lines.push(Line::new(d, "IN", &[1, args[0], args[1]]));
-        let args = [
-            base(d, SERVICE),
-            entry_password(d),
-            base(d, CLIST),
-            clist_password(d),
-            entry(d),
-            entry(d) + 8,
-        ];
-        lines.push(Line::new(d, "RG", &args));
+        create_objects(d, &mut lines);
+        set_up_clists(d, &mut lines);
     }
     for d in 0..DOMAINS as u64 {
         let start = base(d, CLIST) * PAGE_WORDS;
         for place in 0..PAIRS[d as usize] {
-            let (page, password) = pair(d, place);
-            let at = start + 2 * place;
-            lines.push(Line::new(d, "WR", &[at, page * 256 + OWNER]));
-            lines.push(Line::new(d, "WR", &[at + 1, password]));
+            write_pair(d, start + 2 * place, pair(d, place), &mut lines);
         }
     }
     lines
+}
+
+/// A domain's Clist, service and data.
+fn create_objects(d: u64, lines: &mut Vec<Line>) {
+    lines.push(Line::new(d, "CR", &[base(d, CLIST), 2, clist_password(d)]));
+    lines.push(Line::new(
+        d,
+        "CR",
+        &[base(d, SERVICE), 1, service_password(d)],
+    ));
+    for page in DATA {
+        lines.push(Line::new(
+            d,
+            "CR",
+            &[base(d, page), 1, data_password(d, page)],
+        ));
+    }
+}
+
+/// The home Clist owns the domain's Clist and service; the Clist is inserted
+/// and the service registered.
+fn set_up_clists(d: u64, lines: &mut Vec<Line>) {
+    let start = base(d, 0) * PAGE_WORDS;
+    let own = [
+        (base(d, CLIST), clist_password(d)),
+        (base(d, SERVICE), service_password(d)),
+    ];
+    for (i, owned) in own.into_iter().enumerate() {
+        write_pair(d, start + 2 + 2 * i as u64, owned, lines);
+    }
+    let args = [base(d, CLIST), clist_password(d)];
+    lines.push(Line::new(d, "IN", &[1, args[0], args[1]]));
+    let args = [
+        base(d, SERVICE),
+        entry_password(d),
+        base(d, CLIST),
+        clist_password(d),
+        entry(d),
+        entry(d) + 8,
+    ];
+    lines.push(Line::new(d, "RG", &args));
+}
+
+/// A pair with the owner's right, at an address.
+fn write_pair(d: u64, at: u64, (page, password): (u64, u64), lines: &mut Vec<Line>) {
+    lines.push(Line::new(d, "WR", &[at, page * 256 + OWNER]));
+    lines.push(Line::new(d, "WR", &[at + 1, password]));
 }
 
 /// The pair at a place of a domain's Clist: the last six are its data and two

@@ -1,7 +1,9 @@
-//! The loads of the benchmark have the shares that they say.
+//! The loads of the benchmark: their shares, what is granted, and the Clists
+//! that are searched.
 
 use refmonitor::coverage::letters_of;
-use refmonitor::lines::{run_bytes, LETTERS};
+use refmonitor::lines::{calls, run_bytes, LETTERS};
+use refmonitor::monitor::*;
 use refmonitor::workload::{self, Shares, MIXED, WORKLOAD};
 use std::collections::BTreeMap;
 
@@ -67,4 +69,52 @@ fn all_but_some_reads_are_granted() {
         }
         about(100.0 * f64::from(refused) / LINES as f64, 3.0);
     }
+}
+
+#[test]
+fn the_stage_is_granted() {
+    let output = String::from_utf8(run_bytes(&load(&WORKLOAD))).unwrap();
+    assert_eq!(output.lines().count() as u64, LINES + 1);
+    let mut staged = output.lines().skip(1).take(workload::stage().len());
+    assert!(staged.all(|l| l.ends_with(",0,0")));
+}
+
+/// The address and rights that a call wants.
+fn wanted(call: &Call) -> Option<(u64, u64)> {
+    match *call {
+        Call::Rd { address } => Some((address, R)),
+        Call::Wr { address, .. } => Some((address, W)),
+        Call::Lk { address, rights } => Some((address, rights)),
+        Call::Ca { address, .. } => Some((address, P)),
+        _ => None,
+    }
+}
+
+/// How many pairs are filled in the Clist that grants, if one does.
+fn filled_pairs(monitor: &Monitor, domain: u64, (address, rights): (u64, u64)) -> Option<usize> {
+    let object = &monitor.objects[monitor.index_at(address)?];
+    let pair = monitor.granting_pair(domain as usize, object, rights)?;
+    let list = &monitor.objects[monitor.index_at(pair)?];
+    let pairs = list.words().step_by(2);
+    Some(pairs.filter(|&at| monitor.word(at) != 0).count())
+}
+
+/// The workload's granted accesses are found in Clists of 10 to 60 pairs.
+#[test]
+fn the_workload_searches_clists_of_10_to_60_pairs() {
+    let stage = workload::stage().len();
+    let mut monitor = Monitor::new();
+    let (mut judged, mut counts) = (0, BTreeMap::new());
+    for (i, (domain, call)) in calls(&load(&WORKLOAD)).into_iter().enumerate() {
+        if let (Some(wanted), true) = (wanted(&call), i >= stage) {
+            judged += 1;
+            if let Some(filled) = filled_pairs(&monitor, domain, wanted) {
+                *counts.entry(filled).or_insert(0) += 1;
+            }
+        }
+        drop(monitor.call(domain, &call));
+    }
+    assert_eq!(counts.keys().copied().collect::<Vec<_>>(), [10, 25, 40, 60]);
+    assert!(counts.values().all(|&n| n > 7500), "{counts:?}");
+    assert!(counts.values().sum::<i32>() * 100 > judged * 95);
 }

@@ -1,17 +1,10 @@
 //! Properties over generated runs.
 
-use refmonitor::coverage::{Coverage, SITUATIONS, TABLE};
+use refmonitor::coverage::{situations, Coverage, TABLE};
 use refmonitor::inputs;
-use refmonitor::lines::{self, run_bytes};
+use refmonitor::lines::calls;
 use refmonitor::monitor::*;
-
-/// The readable calls of an input.
-fn calls(input: &[u8]) -> Vec<(u64, Call)> {
-    input
-        .split_inclusive(|&b| b == b'\n')
-        .filter_map(|line| lines::read(line.strip_suffix(b"\n")?))
-        .collect()
-}
+use std::ops::Range;
 
 #[test]
 fn every_answer_situation_and_bound() {
@@ -26,7 +19,7 @@ fn every_answer_situation_and_bound() {
             .collect();
         println!("{letters}  {}", counts.join("  "));
     }
-    for &(name, _) in SITUATIONS {
+    for (name, _) in situations() {
         println!("{:7}  {name}", coverage.situation(name));
     }
     println!("{}", coverage.summary());
@@ -78,7 +71,45 @@ fn states_stay_sound() {
     }
 }
 
+/// The saved frames, and the present one.
+fn frames(domain: &Domain) -> Vec<Frame> {
+    let mut frames = domain.saved.clone();
+    frames.push(domain.now.clone());
+    frames
+}
+
 /// What a done call may touch.
+fn assert_own_part(before: &Monitor, after: &Monitor, domain: u64, call: &Call) {
+    let words =
+        |at: Range<u64>| (0..WORDS).all(|i| at.contains(&i) || after.word(i) == before.word(i));
+    let own = domain as usize;
+    let (was, is) = (&before.domains[own], &after.domains[own]);
+    let same_objects = after.objects == before.objects;
+    let same_store = after.store == before.store;
+    match *call {
+        Call::Rd { .. } | Call::Ex { .. } | Call::Lk { .. } | Call::Gt => {
+            assert!(after == before)
+        }
+        Call::Wr { address, value } => {
+            assert!(is == was && same_objects && words(address..address + 1));
+            assert_eq!(after.word(address), value);
+        }
+        Call::Cr { page, count, .. } => {
+            assert!(is == was && words(page * 64..(page + count) * 64));
+            assert!((page * 64..(page + count) * 64).all(|i| after.word(i) == 0));
+        }
+        Call::Dl { .. } | Call::Ap { .. } | Call::Dp { .. } | Call::Rg { .. } => {
+            assert!(is == was && same_store && !same_objects)
+        }
+        Call::In { .. } | Call::Rm { .. } | Call::Lo { .. } => {
+            assert!(same_store && same_objects && is.saved == was.saved);
+        }
+        Call::Ca { .. } => assert!(same_store && same_objects && is.saved == frames(was)),
+        Call::Rt => assert!(same_store && same_objects && was.saved == frames(is)),
+        Call::Bt { .. } => {}
+    }
+}
+
 #[test]
 fn done_calls_change_their_own_part() {
     for seed in 300..305 {
@@ -88,51 +119,38 @@ fn done_calls_change_their_own_part() {
             if monitor.call(domain, &call).is_err() || matches!(call, Call::Bt { .. }) {
                 continue;
             }
-            let words = |at: std::ops::Range<u64>| {
-                (0..WORDS).all(|i| at.contains(&i) || monitor.word(i) == before.word(i))
-            };
-            let others = (0..DOMAINS)
-                .filter(|&d| d as u64 != domain)
-                .all(|d| monitor.domains[d] == before.domains[d]);
-            let own = domain as usize;
-            let same_domain = monitor.domains[own] == before.domains[own];
-            let same_objects = monitor.objects == before.objects;
-            let same_store = monitor.store == before.store;
-            assert!(others);
-            match call {
-                Call::Rd { .. } | Call::Ex { .. } | Call::Lk { .. } | Call::Gt => {
-                    assert!(monitor == before)
-                }
-                Call::Wr { address, value } => {
-                    assert!(same_domain && same_objects && words(address..address + 1));
-                    assert_eq!(monitor.word(address), value);
-                }
-                Call::Cr { page, count, .. } => {
-                    assert!(same_domain && words(page * 64..(page + count) * 64));
-                    assert!((page * 64..(page + count) * 64).all(|i| monitor.word(i) == 0));
-                }
-                Call::Dl { .. } | Call::Ap { .. } | Call::Dp { .. } | Call::Rg { .. } => {
-                    assert!(same_domain && same_store && !same_objects)
-                }
-                Call::In { .. } | Call::Rm { .. } | Call::Lo { .. } => {
-                    assert!(same_store && same_objects);
-                    assert_eq!(monitor.domains[own].saved, before.domains[own].saved);
-                }
-                Call::Ca { .. } => {
-                    assert!(same_store && same_objects);
-                    let saved = &monitor.domains[own].saved;
-                    assert_eq!(saved.last(), Some(&before.domains[own].now));
-                    assert_eq!(saved[..saved.len() - 1], before.domains[own].saved);
-                }
-                Call::Rt => {
-                    assert!(same_store && same_objects);
-                    let saved = &before.domains[own].saved;
-                    assert_eq!(saved.last(), Some(&monitor.domains[own].now));
-                    assert_eq!(saved[..saved.len() - 1], monitor.domains[own].saved);
-                }
-                Call::Bt { .. } => unreachable!(),
-            }
+            let mut others = (0..DOMAINS).filter(|&d| d as u64 != domain);
+            assert!(others.all(|d| monitor.domains[d] == before.domains[d]));
+            assert_own_part(&before, &monitor, domain, &call);
         }
+    }
+}
+
+/// Does the slot name the object by a password that opens it as a Clist?
+fn live(list: &Object, slot: &Capability) -> bool {
+    let opens = |p: &Password| p.word != 0 && p.mode < 128 && p.mode % 2 == 1;
+    let mut passwords = list.passwords.iter();
+    list.base == slot.page && passwords.any(|p| p.word == slot.password && opens(p))
+}
+
+/// Every mode that the object has for the password.
+fn modes_of(object: &Object, password: u64) -> Vec<u64> {
+    let ordinary = object.passwords.iter().filter(|p| p.word == password);
+    let mut modes: Vec<u64> = ordinary.map(|p| p.mode).collect();
+    let registration = object.registration.as_ref();
+    if registration.is_some_and(|r| r.password == password) {
+        modes.push(16);
+    }
+    modes
+}
+
+/// Whether a mode grants the wanted rights or denies them, right by right.
+fn verdict_of(mode: u64, wanted: u64) -> Option<bool> {
+    let held = (0..5).filter(|bit| wanted >> bit & 1 == 1);
+    let missing = held.clone().filter(|bit| mode >> bit & 1 == 0).count();
+    match mode < 128 {
+        true => (missing == 0).then_some(true),
+        false => (held.count() > missing).then_some(false),
     }
 }
 
@@ -140,41 +158,15 @@ fn done_calls_change_their_own_part() {
 fn verdict(monitor: &Monitor, domain: usize, object: &Object, wanted: u64) -> Option<u64> {
     let mut verdicts = Vec::new();
     for slot in &monitor.domains[domain].now.slots {
-        for list in &monitor.objects {
-            let live = list.base == slot.page
-                && list.passwords.iter().any(|p| {
-                    p.word == slot.password && p.word != 0 && p.mode < 128 && p.mode % 2 == 1
-                });
-            if !live {
-                continue;
-            }
-            for pair in 0..32 * list.pages {
-                let at = 64 * list.base + 2 * pair;
+        for list in monitor.objects.iter().filter(|o| live(o, slot)) {
+            for at in (0..32 * list.pages).map(|pair| 64 * list.base + 2 * pair) {
                 let (page, password) = (monitor.word(at) >> 8, monitor.word(at + 1));
-                let mut modes: Vec<u64> = object
-                    .passwords
-                    .iter()
-                    .filter(|p| p.word == password)
-                    .map(|p| p.mode)
-                    .collect();
-                if let Some(r) = &object.registration {
-                    if r.password == password {
-                        modes.push(16);
-                    }
-                }
                 if page != object.base || password == 0 {
                     continue;
                 }
-                for mode in modes {
-                    let held = (0..5).filter(|bit| wanted >> bit & 1 == 1);
-                    let missing = held.clone().filter(|bit| mode >> bit & 1 == 0).count();
-                    let all = missing == 0;
-                    let any = held.count() > missing;
-                    if mode < 128 && all {
-                        verdicts.push(Some(at));
-                    } else if mode >= 128 && any {
-                        verdicts.push(None);
-                    }
+                for mode in modes_of(object, password) {
+                    let verdict = verdict_of(mode, wanted);
+                    verdicts.extend(verdict.map(|grants| grants.then_some(at)));
                 }
             }
         }
@@ -213,51 +205,4 @@ fn modes() {
 fn the_same_seed_gives_the_same_lines() {
     assert_eq!(inputs::input(9, 3000), inputs::input(9, 3000));
     assert_ne!(inputs::input(9, 3000), inputs::input(10, 3000));
-}
-
-#[test]
-fn workload_is_mostly_granted() {
-    let mut input = Vec::new();
-    refmonitor::workload::write(&refmonitor::workload::WORKLOAD, 20_000, &mut input).unwrap();
-    let output = String::from_utf8(run_bytes(&input)).unwrap();
-    let lines = output.lines().skip(1);
-    let done = lines.filter(|l| l.split(',').nth(1) == Some("0")).count();
-    assert_eq!(output.lines().count(), 20_001);
-    assert!(done > 19_000, "{done}");
-    let stage = refmonitor::workload::stage().len();
-    let mut staged = output.lines().skip(1).take(stage);
-    assert!(staged.all(|l| l.ends_with(",0,0")));
-}
-
-/// The workload's granted accesses are found in Clists of 10 to 60 pairs.
-#[test]
-fn workload_searches_clists_of_10_to_60_pairs() {
-    let mut input = Vec::new();
-    refmonitor::workload::write(&refmonitor::workload::WORKLOAD, 20_000, &mut input).unwrap();
-    let stage = refmonitor::workload::stage().len();
-    let mut monitor = Monitor::new();
-    let (mut judged, mut counts) = (0, std::collections::BTreeMap::new());
-    for (i, (domain, call)) in calls(&input).into_iter().enumerate() {
-        let wanted = match call {
-            Call::Rd { address } => Some((address, R)),
-            Call::Wr { address, .. } => Some((address, W)),
-            Call::Lk { address, rights } => Some((address, rights)),
-            Call::Ca { address, .. } => Some((address, P)),
-            _ => None,
-        };
-        if let (Some((address, rights)), true) = (wanted, i >= stage) {
-            judged += 1;
-            let object = monitor.index_at(address).map(|i| &monitor.objects[i]);
-            let pair = object.and_then(|o| monitor.granting_pair(domain as usize, o, rights));
-            if let Some(pair) = pair {
-                let list = &monitor.objects[monitor.index_at(pair).unwrap()];
-                let filled = list.words().step_by(2).filter(|&at| monitor.word(at) != 0);
-                *counts.entry(filled.count()).or_insert(0) += 1;
-            }
-        }
-        drop(monitor.call(domain, &call));
-    }
-    assert_eq!(counts.keys().copied().collect::<Vec<_>>(), [10, 25, 40, 60]);
-    assert!(counts.values().all(|&n| n > 3000), "{counts:?}");
-    assert!(counts.values().sum::<i32>() * 100 > judged * 95);
 }

@@ -2,7 +2,7 @@
 //! one. Status 1 for a difference, and where the generated lines did not reach
 //! all that they should.
 
-use refmonitor::compare::{self, Plan, Ran};
+use refmonitor::compare::{self, Compared, Plan, Ran};
 use std::process::ExitCode;
 use std::time::Duration;
 
@@ -43,7 +43,12 @@ fn main() -> ExitCode {
             return ExitCode::FAILURE;
         }
     };
-    let coverage = compared.coverage;
+    reached(&compared)
+}
+
+/// Tells what the generated lines reached, and fails where that is not all.
+fn reached(compared: &Compared) -> ExitCode {
+    let coverage = &compared.coverage;
     let (missing, strange) = (coverage.missing(), coverage.strange());
     for what in &missing {
         println!("never reached by the generated lines: {what}");

@@ -51,6 +51,7 @@ pub fn kinds() -> Vec<(&'static str, Vec<Line>)> {
     let data = workload::data_word;
     let call = Line::new(3, "CA", &[workload::entry(3), 0]);
     let insert = Line::new(3, "IN", &[1, 96, 14]);
+    let add = Line::new(3, "AP", &[96, 777, 1]);
     vec![
         ("an empty line, refused by 1", Vec::new()),
         ("RD by domain 4, refused by 4", line(4, "RD", &[0])),
@@ -72,6 +73,7 @@ pub fn kinds() -> Vec<(&'static str, Vec<Line>)> {
             vec![call, Line::new(3, "RT", &[])],
         ),
         ("IN and RM", vec![insert, Line::new(3, "RM", &[1])]),
+        ("AP and DP", vec![add, Line::new(3, "DP", &[96, 777])]),
         ("BT", line(0, "BT", &[11, 12, 13, 14])),
     ]
 }

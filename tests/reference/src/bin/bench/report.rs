@@ -8,13 +8,14 @@ use std::time::Duration;
 const PARTS: [(&str, &[&str]); 7] = [
     ("reading", &["monitor::", "stream::", "lines::"]),
     ("soundness", &["soundness::"]),
-    ("judging", &["judge::", "rights::", "state::"]),
+    ("judging", &["clists::", "judge::", "rights::", "state::"]),
     (
         "the calls",
         &[
             "access_calls::",
             "object_calls::",
             "domain_calls::",
+            "register_call::",
             "pdx_calls::",
             "apply::",
             "calls::",

@@ -1,0 +1,13 @@
+//! Comparing another implementation with this one, to the byte.
+
+mod difference;
+mod program;
+mod report;
+mod search;
+mod shrink;
+
+pub use difference::{differ, in_form, line_count, Difference, Other};
+pub use program::{run_program, Feed, Ran};
+pub use report::report;
+pub use search::{search, Compared, Plan};
+pub use shrink::shortest;

@@ -1,0 +1,14 @@
+//! Which answers can occur, which situations and bounds a run comes to, and
+//! counters of all three.
+
+mod bounds;
+mod count;
+mod seen;
+mod situations;
+mod table;
+
+pub use bounds::BOUNDS;
+pub use count::Coverage;
+pub use seen::Seen;
+pub use situations::{situations, Situation};
+pub use table::{letters_of, pairs, NO_LETTERS, TABLE};

@@ -1,0 +1,41 @@
+//! Situations that a good run comes to.
+
+mod boots;
+mod faults;
+mod judging;
+mod lists;
+mod objects;
+mod passwords;
+mod procedures;
+mod registrations;
+mod slots;
+
+use super::seen::Seen;
+use crate::monitor::*;
+
+/// A situation's name, and whether a call is in it.
+pub type Situation = (&'static str, fn(&Seen) -> bool);
+
+const GROUPS: [&[Situation]; 9] = [
+    boots::BOOTS,
+    judging::JUDGING,
+    lists::LISTS,
+    objects::OBJECTS,
+    passwords::PASSWORDS,
+    registrations::REGISTRATIONS,
+    slots::SLOTS,
+    procedures::PROCEDURES,
+    faults::FAULTS,
+];
+
+/// All of them.
+pub fn situations() -> impl Iterator<Item = Situation> {
+    GROUPS.into_iter().flatten().copied()
+}
+
+/// Does any domain's present slot hold this capability?
+fn some_slot(monitor: &Monitor, page: u64, password: u64) -> bool {
+    let wanted = Capability { page, password };
+    let mut domains = monitor.domains.iter();
+    domains.any(|d| d.now.slots.contains(&wanted))
+}

@@ -1,0 +1,137 @@
+//! Plans that put the judging of pairs to the test.
+
+use super::finding::owner;
+use super::*;
+
+impl Generator {
+    /// A negative pair ahead of, or behind, the pair that grants.
+    pub(super) fn deny(&mut self, d: usize) {
+        let Some(object) = self.find(|m, o| {
+            o.base % ESTATE_PAGES != 0
+                && o.passwords.len() < MAX_PASSWORDS
+                && m.granting_pair(d, o, R).is_some()
+                && owner(m, o).is_some()
+        }) else {
+            return;
+        };
+        let Some(owner) = owner(&self.model, &object) else {
+            return;
+        };
+        let Some((at, list, writer)) = self.granting_place(d, &object) else {
+            return;
+        };
+        let password = self.new_password(&object);
+        let mode = self
+            .random
+            .pick(&[129, 130, 132, 136, 131, 143, 144, 145, 159]);
+        self.push(owner, "AP", &[object.base, password, mode]);
+        if self.random.percent(70) {
+            // The granting pair moves down, the negative one takes its place.
+            let old = self.model.word(at + 1);
+            if let Some(free) = self.free_pair(&list) {
+                self.write_pair(writer, free, object.base, old);
+            }
+            self.write_pair(writer, at, object.base, password);
+        } else if let Some(free) = self.free_pair(&list) {
+            self.write_pair(writer, free, object.base, password);
+        }
+        self.try_rights(d, &object);
+        if self.random.percent(60) {
+            self.push(owner, "DP", &[object.base, password]);
+        }
+    }
+
+    /// The pair that grants R, its Clist, and a domain that may write there.
+    fn granting_place(&self, d: usize, object: &Object) -> Option<(u64, Object, usize)> {
+        let at = self.model.granting_pair(d, object, R)?;
+        let list = self.model.objects[self.model.index_at(at)?].clone();
+        let writer = self.writer(d, &list)?;
+        Some((at, list, writer))
+    }
+
+    /// Calls that want various rights on the object.
+    fn try_rights(&mut self, d: usize, object: &Object) {
+        let address = self.within(object);
+        for _ in 0..2 + self.random.below(4) {
+            match self.random.below(7) {
+                0 => self.push(d, "RD", &[address]),
+                1 => self.push(d, "WR", &[address, 5]),
+                2 => self.push(d, "EX", &[address]),
+                3 => self.push(d, "DP", &[object.base, 0]),
+                4 => self.push(d, "CA", &[address, 0]),
+                _ => {
+                    let rights = self.rights();
+                    self.push(d, "LK", &[address, rights]);
+                }
+            }
+        }
+    }
+
+    /// Two pairs that hold the wanted rights only together.
+    pub(super) fn split(&mut self, d: usize) {
+        let owner = self.some_domain();
+        let Some(object) = self.find(|m, o| {
+            o.passwords.len() + 2 <= MAX_PASSWORDS
+                && m.granting_pair(owner, o, OWNER).is_some()
+                && m.granting_pair(d, o, R).is_none()
+        }) else {
+            return;
+        };
+        let one = self.new_password(&object);
+        let mut two = self.new_password(&object);
+        while two == one {
+            two = self.new_password(&object);
+        }
+        let (a, b) = self
+            .random
+            .pick(&[(1, 2), (2, 4), (3, 12), (1, 14), (8, 7)]);
+        self.push(owner, "AP", &[object.base, one, a]);
+        self.push(owner, "AP", &[object.base, two, b]);
+        self.give(d, object.base, one);
+        self.give(d, object.base, two);
+        let address = self.within(&object);
+        self.push(d, "LK", &[address, a | b]);
+        self.push(d, "LK", &[address, a]);
+        self.push(d, "LK", &[address, b]);
+        self.push(d, "AP", &[object.base, 3, 3]);
+    }
+
+    /// A pair far down in a Clist of several pages.
+    pub(super) fn tome(&mut self, d: usize) {
+        let lists = self.lists(d);
+        let Some(list) = lists.iter().find(|list| list.pages > 1) else {
+            self.make_tome(d);
+            return;
+        };
+        let target = self.unread(d, None);
+        let (Some(writer), Some((target, word))) = (self.writer(d, list), target) else {
+            return;
+        };
+        let words = list.words();
+        let at = match self.random.below(4) {
+            0 => words.end - 2,
+            1 => words.start + PAGE_WORDS,
+            2 => words.start + PAGE_WORDS - 2,
+            _ => words.start + 2 * self.random.below(list.pairs()),
+        };
+        self.write_pair(writer, at, target.base, word);
+        let address = self.within(&target);
+        self.push(d, "LK", &[address, R]);
+        self.push(d, "RD", &[address]);
+    }
+
+    /// A Clist of several pages, and a slot for it.
+    fn make_tome(&mut self, d: usize) {
+        let gaps: Vec<(u64, u64)> = self.gaps(d).into_iter().filter(|g| g.1 > 1).collect();
+        if gaps.is_empty() {
+            return;
+        }
+        let (first, length) = self.random.pick(&gaps);
+        let count = self.random.pick(&[2, 2, 3, 5, length]).min(length);
+        let password = self.password();
+        self.push(d, "CR", &[first, count, password]);
+        self.give(d, first, password);
+        let slot = self.model.domains[d].now.slots.len() as u64;
+        self.push(d, "IN", &[slot.min(7), first, password]);
+    }
+}

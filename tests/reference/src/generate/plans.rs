@@ -1,0 +1,78 @@
+//! What the domains may set out to do. A plan queues the lines that it takes.
+
+use super::*;
+
+type Plan = fn(&mut Generator, usize);
+
+/// What a domain may set out to do, and how often.
+pub(super) const PLANS: [(Plan, u64); 28] = [
+    (Generator::access, 30),
+    (Generator::look, 10),
+    (Generator::share, 8),
+    (Generator::create, 6),
+    (Generator::delete, 2),
+    (Generator::recreate, 2),
+    (Generator::add, 6),
+    (Generator::drop_one, 3),
+    (Generator::register, 4),
+    (Generator::insert, 5),
+    (Generator::remove, 3),
+    (Generator::get, 4),
+    (Generator::lock, 1),
+    (Generator::enter, 8),
+    (Generator::leave, 6),
+    (Generator::stray, 6),
+    (Generator::dive, 2),
+    (Generator::crowd, 1),
+    (Generator::fence, 1),
+    (Generator::seal, 1),
+    (Generator::deny, 3),
+    (Generator::ghost, 1),
+    (Generator::fill, 1),
+    (Generator::brim, 1),
+    (Generator::split, 1),
+    (Generator::stumble, 2),
+    (Generator::strip, 1),
+    (Generator::tome, 2),
+];
+
+/// Plans that can be done before the first BT.
+const EARLY: [Plan; 8] = [
+    Generator::create,
+    Generator::create,
+    Generator::insert,
+    Generator::insert,
+    Generator::remove,
+    Generator::lock,
+    Generator::get,
+    Generator::stray,
+];
+
+impl Generator {
+    /// A line of a plan; a stray one where no plan has any.
+    pub(super) fn planned_line(&mut self) -> Line {
+        for _ in 0..30 {
+            if self.queue.is_empty() {
+                self.plan();
+            }
+        }
+        let line = self.queue.pop_front();
+        line.unwrap_or_else(|| self.stray_line())
+    }
+
+    fn plan(&mut self) {
+        let d = self.random.pick(&self.domains.clone());
+        if self.booted {
+            let plan = self.random.weighted(&self.weights.clone());
+            PLANS[plan].0(self, d);
+        } else {
+            let plan = self.random.pick(&EARLY);
+            plan(self, d);
+        }
+    }
+
+    pub(super) fn push(&mut self, domain: usize, letters: &'static str, args: &[u64]) {
+        self.queue
+            .push_back(Line::new(domain as u64, letters, args));
+    }
+}

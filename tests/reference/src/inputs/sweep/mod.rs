@@ -1,0 +1,47 @@
+//! Sweeps over the ranges of arguments, letters and numbers.
+
+mod bounds;
+mod fields;
+mod judging;
+mod ranges;
+
+const TOP: u64 = u64::MAX;
+
+/// Whole ranges, one after another.
+pub fn sweep() -> Vec<u8> {
+    let mut sweep = Sweep(String::new());
+    sweep.stage();
+    sweep.pages();
+    sweep.counts();
+    sweep.modes();
+    sweep.bounds();
+    sweep.pairs();
+    sweep.addresses();
+    sweep.slots();
+    sweep.choices();
+    sweep.letters();
+    sweep.numbers();
+    sweep.0.into_bytes()
+}
+
+/// The lines so far.
+struct Sweep(String);
+
+impl Sweep {
+    fn add(&mut self, line: impl AsRef<str>) {
+        self.0 += line.as_ref();
+        self.0.push('\n');
+    }
+
+    fn boot(&mut self) {
+        self.add("0,BT,11,12,13,14");
+    }
+
+    /// A boot, and an object of two pages that domain 0 owns.
+    fn stage(&mut self) {
+        self.boot();
+        self.add("0,CR,1,2,21");
+        self.add("0,WR,4,256");
+        self.add("0,WR,5,21");
+    }
+}

@@ -1,0 +1,72 @@
+//! Which capabilities open a Clist, and which pairs grant an access.
+
+use super::*;
+
+impl Monitor {
+    /// Rule 1: the object that the capability names by an ordinary password
+    /// whose mode is positive and holds R.
+    pub fn clist(&self, capability: Capability) -> Option<&Object> {
+        let object = &self.objects[self.index_of_base(capability.page)?];
+        let mode = object.ordinary_mode(capability.password)?;
+        mode_grants(mode, R).then_some(object)
+    }
+
+    /// Rules 2 to 4: the address of the pair that grants, if the first
+    /// deciding pair grants.
+    pub fn granting_pair(&self, domain: usize, object: &Object, wanted: u64) -> Option<u64> {
+        for &slot in &self.domains[domain].now.slots {
+            let Some(list) = self.clist(slot) else {
+                continue;
+            };
+            for place in 0..list.pairs() {
+                let at = list.base * PAGE_WORDS + 2 * place;
+                if self.word(at) / 256 != object.base {
+                    continue;
+                }
+                let Some(mode) = object.mode(self.word(at + 1)) else {
+                    continue;
+                };
+                if mode_grants(mode, wanted) {
+                    return Some(at);
+                }
+                if mode_denies(mode, wanted) {
+                    return None;
+                }
+            }
+        }
+        None
+    }
+
+    /// Judge an access to an object, or to none; its index and the granting pair.
+    pub(super) fn judge(
+        &self,
+        domain: usize,
+        index: Option<usize>,
+        wanted: u64,
+    ) -> Result<(usize, u64), Refusal> {
+        let index = index.ok_or(Refusal::NotGranted)?;
+        let pair = self
+            .granting_pair(domain, &self.objects[index], wanted)
+            .ok_or(Refusal::NotGranted)?;
+        Ok((index, pair))
+    }
+
+    pub(super) fn judge_at(
+        &self,
+        domain: usize,
+        address: u64,
+        wanted: u64,
+    ) -> Result<(usize, u64), Refusal> {
+        self.judge(domain, self.index_at(address), wanted)
+    }
+
+    pub(super) fn judge_base(
+        &self,
+        domain: usize,
+        base: u64,
+        wanted: u64,
+    ) -> Result<usize, Refusal> {
+        let (index, _) = self.judge(domain, self.index_of_base(base), wanted)?;
+        Ok(index)
+    }
+}

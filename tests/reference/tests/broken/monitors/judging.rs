@@ -1,0 +1,89 @@
+//! Pairs and Clists judged wrongly.
+
+use super::*;
+
+pub(super) const JUDGING: &[Broken] = &[
+    ("negative pairs ignored", |m, _, d, c| {
+        misjudge(m, d, c, true_mode, |_, _| false)
+    }),
+    ("negative pairs deny only all", |m, _, d, c| {
+        misjudge(m, d, c, true_mode, |mode, wanted| {
+            mode & NOT != 0 && mode & wanted == wanted
+        })
+    }),
+    ("negative pairs deny everything", |m, _, d, c| {
+        misjudge(m, d, c, true_mode, |mode, _| mode & NOT != 0)
+    }),
+    ("page cut to seven bits", |m, _, d, c| {
+        misjudge(
+            m,
+            d,
+            c,
+            |o, word, password| true_mode(o, word & 0x7fff, password),
+            mode_denies,
+        )
+    }),
+    ("password cut to 32 bits", |m, _, d, c| {
+        misjudge(
+            m,
+            d,
+            c,
+            |o, word, password| {
+                let known = o.passwords.iter();
+                let mut alike = known.filter(|p| p.word as u32 == password as u32);
+                let alike = alike.next().map_or(password, |p| p.word);
+                true_mode(o, word, alike)
+            },
+            mode_denies,
+        )
+    }),
+    ("registration's password never true", |m, _, d, c| {
+        misjudge(
+            m,
+            d,
+            c,
+            |o, word, password| true_mode(o, word, password).filter(|&mode| mode != P),
+            mode_denies,
+        )
+    }),
+    ("only the first page of a Clist", |m, _, d, c| {
+        let outcome = m.call(d, c);
+        match (looks(d, c), &outcome) {
+            (Some(_), Ok(Done::Value(at))) => {
+                let list = &m.objects[m.index_at(*at).unwrap()];
+                if at / 64 == list.base {
+                    outcome
+                } else {
+                    Err(Refusal::NotGranted)
+                }
+            }
+            _ => outcome,
+        }
+    }),
+    ("LK gives the pair's number", |m, _, d, c| {
+        let outcome = m.call(d, c);
+        match (looks(d, c), outcome) {
+            (Some(_), Ok(Done::Value(at))) => Ok(Done::Value(at / 2)),
+            (_, other) => other,
+        }
+    }),
+    ("dead slots are searched", |m, _, d, c| {
+        // Slots named by a registration's password count as live.
+        if let (Some((at, rights)), Err(Refusal::NotGranted)) = (looks(d, c), m.clone().call(d, c))
+        {
+            let mut copy = m.clone();
+            for object in &mut copy.objects {
+                if let Some(r) = &object.registration {
+                    let word = r.password;
+                    object.passwords.push(Password { word, mode: R });
+                }
+            }
+            let object = m.index_at(at).map(|i| m.objects[i].clone());
+            if let Some(object) = object {
+                let pair = copy.granting_pair(d as usize, &object, rights);
+                return pair.map(Done::Value).ok_or(Refusal::NotGranted);
+            }
+        }
+        m.call(d, c)
+    }),
+];
