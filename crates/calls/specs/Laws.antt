@@ -11,6 +11,7 @@ pub mod Sound
 pub mod Booted
 pub mod Agree
 pub mod Places
+pub mod Scraps
 pub mod Zeroed
 pub mod Parts
 pub mod Told

@@ -2,3 +2,4 @@ pub mod Runs
 pub mod Marked
 pub mod Nested
 pub mod Locks
+pub mod Ends

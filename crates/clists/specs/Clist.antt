@@ -1,9 +1,10 @@
--- Clists and live capabilities: document 01, "Rights and capabilities", and "How an access is judged", rule 1.
-use Prim.Native.Nat.{ℕ, _+_, _*_}
+-- Clists and live capabilities: document 01, "Rights and capabilities", and "How an access is judged", rule 1; document 02, T-01.
+use Prim.Native.Nat.{ℕ, _+_, _*_, _/_}
 use mathlib.Core.Bool.{Bool, cond, _&&_}
 use mathlib.Core.List.{List, []}
-use lib.Dec.{leb, ltb}
-use lib.ListN.{length, take, drop}
+use lib.Dec.{leb, ltb, eqb}
+use lib.ListN.{length, take, drop, getD}
+use Rattle.bounded.specs.Search.{first}
 use Rattle.rights.specs.Modes.{read, grants}
 use Rattle.state.specs.Places.{slotAt}
 use Rattle.state.specs.Lookup.{objectBased, ordinaryMode}
@@ -24,9 +25,21 @@ live t c = grants (ordinaryMode (named t c) (c .password)) read
 abbrev pub runWords : List ℕ → ℕ → ℕ → List ℕ
 runWords words base pages = cond (leb (64 * (base + pages)) (length words)) (take (64 * pages) (drop (64 * base) words)) []
 
--- an object as a Clist: the words of its run
+-- both words of pair i are zero
+abbrev pub zeroPair : List ℕ → ℕ → Bool
+zeroPair run i = eqb (getD run (2 * i) 0) 0 && eqb (getD run (2 * i + 1) 0) 0
+
+-- document 02, T-01: how many pairs of a run stand before the first whose two words are both zero; all of them where there is none
+unfoldable pub listEnd : List ℕ → ℕ
+listEnd run = first (zeroPair run) (λ i. i) (length run / 2) 0 (length run / 2)
+
+-- these pairs
+unfoldable pub untilEnd : List ℕ → List ℕ
+untilEnd run = take (2 * listEnd run) run
+
+-- an object as a Clist: the words of its run up to the end of the list
 unfoldable pub clist : List ℕ → Object → List ℕ
-clist words o = runWords words (o .base) (o .pages)
+clist words o = untilEnd (runWords words (o .base) (o .pages))
 
 -- the words of the Clist at slot k; none where the slot is unused or not live
 unfoldable pub listAt : Table → List ℕ → Frame → ℕ → List ℕ

@@ -1,4 +1,5 @@
 // Clists: the part of the store that is one, and whether a capability opens it.
+use crate::ends::list_end;
 use rights::Rights;
 use state::Capability;
 use state::Object;
@@ -11,11 +12,13 @@ ghost use mathlib.Core.Bool.{cond};
 ghost use Rattle.rights.specs.Modes.{read, grants};
 ghost use Rattle.state.specs.Places.{estateAt};
 ghost use Rattle.state.specs.Lookup.{ordinaryMode};
-ghost use Rattle.clists.specs.Clist.{named, live, runWords};
+ghost use Rattle.clists.specs.Clist.{named, live, runWords, untilEnd};
 ghost use Rattle.clists.specs.Opening.{openedBy, openedIn};
 
-// The part of the store that is a run of pages, read as a Clist; an empty part where the store is too short for it.
-pub fn clist<'a>(store: &'a [u64], base: u8, pages: u8) -> &'a [u64]
+mod ends;
+
+// The part of the store that is a run of pages; an empty part where the store is too short for it.
+fn run_of<'a>(store: &'a [u64], base: u8, pages: u8) -> &'a [u64]
     ensures { λ r. ⌜ now r ≡ runWords (now (store .entry)) base pages ⌝ }
 {
     let start = 64 * (base as usize);
@@ -24,6 +27,15 @@ pub fn clist<'a>(store: &'a [u64], base: u8, pages: u8) -> &'a [u64]
         return &store[0..0];
     }
     &store[start..end]
+}
+
+// The part of the store that is the Clist of a run of pages: the run up to the list's end.
+pub fn clist<'a>(store: &'a [u64], base: u8, pages: u8) -> &'a [u64]
+    ensures { λ r. ⌜ now r ≡ untilEnd (runWords (now (store .entry)) base pages) ⌝ }
+{
+    let run = run_of(store, base, pages);
+    let end = 2 * list_end(run);
+    &run[0..end]
 }
 
 // Whether a password opens the object as a Clist: an ordinary one of it, positive, with R.

@@ -17,11 +17,12 @@ use Rattle.soundness.specs.Laws.Found.{based-answered, covering-answered, cover
 use Rattle.state.specs.declared.Capability.{Capability}
 use Rattle.state.specs.declared.Table.{Table}
 use Rattle.state.specs.declared.Frame.{Frame}
-use Rattle.clists.specs.Clist.{named, live, listAt}
+use Rattle.clists.specs.Clist.{named, live, runWords, listAt}
 use Rattle.judge.specs.Search.{targeted}
 use Rattle.judge.specs.Judged.{judged}
 use Rattle.clists.specs.Laws.Live.{live-named, live-base, live-holds, live-local}
-use Rattle.clists.specs.Laws.Lists.{SameClist, list-same}
+use Rattle.clists.specs.Laws.Ends.{reach}
+use Rattle.clists.specs.Laws.Lists.{run-short, SameClist, list-same}
 use Rattle.judge.specs.Laws.Local.{same-local, untrue-refused, free-refused}
 use Rattle.judge.specs.declared.Target.{Target}
 use Rattle.judge.specs.declared.Target.the-variants.{Address, Base}
@@ -81,10 +82,12 @@ module _ (G : Group) (w : World) (ok : sound (w .state) ≡ true) where
         content = λ a n from to. sym (word-in G (w .words) n (rw (own a n from to) (live-inside G t c k a)));
       }
     where
-      own : live t c ≡ true → (n : ℕ) → 64 * c .page ≤ n → n < 64 * (c .page + named t c .pages) → n / 64 / 32 ≡ c .page / 32
+      own : live t c ≡ true → (n : ℕ) → 64 * c .page ≤ n → n < 64 * c .page + reach (runWords (w .words) (c .page) (named t c .pages))
+          → n / 64 / 32 ≡ c .page / 32
       own a n from to =
           let b = based-answered (w .state) (c .page) ok .bounds (base-standing (c .page) (named t c) (live-named t c a)) in
           let e = live-base t c a in
+          let m = run-short (w .words) (c .page) (named t c .pages) in
           omega arith
 
   -- the Clists that a frame's slots name are the same in the part

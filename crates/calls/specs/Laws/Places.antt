@@ -2,7 +2,7 @@
 -- common is `SameWorld`.
 pub mod Worlds
 pub mod Objects
-mod Viewed
+pub mod Viewed
 mod Calls
 pub mod Chosen
 use Prim.Native.Nat.{ℕ}

@@ -8,21 +8,22 @@ use borrow.Author.Needs.{needs}
 use Rattle.bounded.specs.Bools.{cond-same}
 use Rattle.state.specs.declared.Capability.{Capability}
 use Rattle.state.specs.declared.Table.{Table}
-use Rattle.clists.specs.Clist.{named, live, runWords, clist}
+use Rattle.clists.specs.Clist.{named, live, runWords, untilEnd, clist}
 use Rattle.clists.specs.Laws.Live.{live-base}
+use Rattle.clists.specs.Laws.Ends.{until-none}
 use Rattle.judge.proofs.slot_verdict.Statement.{statement}
 use Rattle.judge.proofs.slot_verdict.Tie as tie
 
 -- the words of the pages that a capability opens are those of the Clist that it names, where it is live
 opened-list : (t : Table) (words : List ℕ) (c : Capability) (n : ℕ) → n ≡ cond (live t c) (named t c .pages) 0
-    → runWords words (c .page) n ≡ cond (live t c) (clist words (named t c)) []
+    → untilEnd (runWords words (c .page) n) ≡ cond (live t c) (clist words (named t c)) []
 unfolding clist
 opened-list t words c n = go (live t c) refl
   where
     go : (b : Bool) → live t c ≡ b → n ≡ cond b (named t c .pages) 0
-        → runWords words (c .page) n ≡ cond b (clist words (named t c)) []
+        → untilEnd (runWords words (c .page) n) ≡ cond b (clist words (named t c)) []
     go true h e = rw (e, live-base t c h)
-    go false h e = rw e (cond-same (leb (64 * (c .page + 0)) (length words)) [])
+    go false h e = rw (e, cond-same {A = List ℕ} (leb (64 * (c .page + 0)) (length words)) [], until-none)
 
 pub slot-verdict-spec : {M : Type 1} → statement M
 slot-verdict-spec =

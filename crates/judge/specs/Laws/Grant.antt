@@ -1,4 +1,4 @@
--- What a grant means, and that hints never matter: document 01, "Rights and capabilities".
+-- What a grant means, and that hints give no rights: document 01, "Rights and capabilities".
 use Prim.Native.Nat.{ℕ, suc, _+_, _*_, _/_, _<_, _≤_}
 use mathlib.Core.Path.{_≡_, refl, ap, _∙_}
 use mathlib.Core.Bool.{true, false}
@@ -19,7 +19,7 @@ use Rattle.soundness.specs.Laws.Passwords.{ordinary-legal}
 use Rattle.state.specs.declared.Object.{Object}
 use Rattle.state.specs.declared.Table.{Table}
 use Rattle.state.specs.declared.Frame.{Frame}
-use Rattle.clists.specs.Clist.{named}
+use Rattle.clists.specs.Clist.{named, zeroPair}
 use Rattle.judge.specs.Search.{pairMode, targeted}
 use Rattle.judge.specs.Judged.{judged}
 use Rattle.judge.specs.Pairs.{pairsAt, firstWord, secondWord, addressAt, modeAt, TrueFor}
@@ -125,26 +125,28 @@ pub grant-registered : (words : List ℕ) (o : Object) (wanted a d : ℕ) → Ob
     → o .registration .password ≡ getD words (a + 1) 0
 grant-registered words o wanted a d b p g = registered-mode o (getD words (a + 1) 0) d b (g .holds 4 p) (g .positive)
 
--- Two stores that differ in the hints alone: the first word of a pair, at an even address, agrees in its page, the second in all.
+-- Two stores that differ in the hints alone: the first word of a pair, at an even address, agrees in its page, the second in all; and both
+-- have the same pairs of two zero words, since the end of a list is told by whole words.
 pub record SameButHints (words words′ : List ℕ) : Type 0 where
   pub long : length words ≡ length words′
   pub pages : (n : ℕ) → getD words (2 * n) 0 / 256 ≡ getD words′ (2 * n) 0 / 256
   pub passwords : (n : ℕ) → getD words (2 * n + 1) 0 ≡ getD words′ (2 * n + 1) 0
+  pub zeros : (n : ℕ) → zeroPair words n ≡ zeroPair words′ n
 
 hint-mode : (o : Object) (word word′ password : ℕ) → word / 256 ≡ word′ / 256 → pairMode o word password ≡ pairMode o word′ password
 unfolding pairMode
 hint-mode o word word′ password e = rw e
 
--- HINTS NEVER MATTER: such stores are judged alike.
+-- HINTS GIVE NO RIGHTS: such stores are judged alike.
 pub hints-ignored : (t : Table) (words words′ : List ℕ) (f : Frame) (target : Target) (wanted : ℕ) → SameButHints words words′
     → judged t words f target wanted ≡ judged t words′ f target wanted
 hints-ignored t words words′ f target wanted m =
     pairs-local t t words words′ f target wanted refl
-    (λ k l. record { pairs = ap (λ n. n / 2) (list-length t words words′ f k (m .long)); modes = modes k })
+    (λ k l. record { pairs = ap (λ n. n / 2) (list-length t words words′ f k (m .long) (m .zeros)); modes = modes k })
   where
     modes : (k i : ℕ) → i < pairsAt t words f k → modeAt t words f (targeted t target) k i ≡ modeAt t words′ f (targeted t target) k i
     modes k i l =
         let n : ℕ = 32 * slotAt f k .page + i in
         let w = pair-words t words f k i (2 * n) l (omega arith) in
-        let v = pair-words t words′ f k i (2 * n) (omega (arith, list-length t words words′ f k (m .long))) (omega arith) in
+        let v = pair-words t words′ f k i (2 * n) (omega (arith, list-length t words words′ f k (m .long) (m .zeros))) (omega arith) in
         rw (w .first, w .second, v .first, v .second, m .passwords n) (hint-mode (targeted t target) _ _ _ (m .pages n))
