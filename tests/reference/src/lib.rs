@@ -1,4 +1,4 @@
-//! A second implementation of the call program, by the paper.
+//! A second implementation of the call program, by documents 01 and 02.
 
 pub mod cases;
 pub mod compare;
@@ -10,4 +10,5 @@ pub mod inputs;
 pub mod lines;
 pub mod monitor;
 pub mod random;
+pub mod short_list;
 pub mod workload;

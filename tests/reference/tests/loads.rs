@@ -1,9 +1,11 @@
 //! The loads of the benchmark: their shares, what is granted, and the Clists
-//! that are searched.
+//! that are searched; and the stage with a short Clist.
 
 use refmonitor::coverage::letters_of;
+use refmonitor::generate::Line;
 use refmonitor::lines::{calls, run_bytes, LETTERS};
 use refmonitor::monitor::*;
+use refmonitor::short_list;
 use refmonitor::workload::{self, Shares, MIXED, WORKLOAD};
 use std::collections::BTreeMap;
 
@@ -90,13 +92,12 @@ fn wanted(call: &Call) -> Option<(u64, u64)> {
     }
 }
 
-/// How many pairs are filled in the Clist that grants, if one does.
-fn filled_pairs(monitor: &Monitor, domain: u64, (address, rights): (u64, u64)) -> Option<usize> {
+/// How many pairs the Clist that grants has, if one does.
+fn pair_count(monitor: &Monitor, domain: u64, (address, rights): (u64, u64)) -> Option<usize> {
     let object = &monitor.objects[monitor.index_at(address)?];
     let pair = monitor.granting_pair(domain as usize, object, rights)?;
     let list = &monitor.objects[monitor.index_at(pair)?];
-    let pairs = list.words().step_by(2);
-    Some(pairs.filter(|&at| monitor.word(at) != 0).count())
+    Some(monitor.list_pairs(list).count())
 }
 
 /// The workload's granted accesses are found in Clists of 10 to 60 pairs.
@@ -108,8 +109,8 @@ fn the_workload_searches_clists_of_10_to_60_pairs() {
     for (i, (domain, call)) in calls(&load(&WORKLOAD)).into_iter().enumerate() {
         if let (Some(wanted), true) = (wanted(&call), i >= stage) {
             judged += 1;
-            if let Some(filled) = filled_pairs(&monitor, domain, wanted) {
-                *counts.entry(filled).or_insert(0) += 1;
+            if let Some(pairs) = pair_count(&monitor, domain, wanted) {
+                *counts.entry(pairs).or_insert(0) += 1;
             }
         }
         drop(monitor.call(domain, &call));
@@ -117,4 +118,49 @@ fn the_workload_searches_clists_of_10_to_60_pairs() {
     assert_eq!(counts.keys().copied().collect::<Vec<_>>(), [10, 25, 40, 60]);
     assert!(counts.values().all(|&n| n > 7500), "{counts:?}");
     assert!(counts.values().sum::<i32>() * 100 > judged * 95);
+}
+
+/// The lines as an input.
+fn input(lines: &[Line]) -> Vec<u8> {
+    let lines = lines.iter().map(|line| [line.bytes(), b"\n".to_vec()]);
+    lines.flatten().flatten().collect()
+}
+
+/// Of the stages' Clists all pairs stand ahead of the end, so that they are
+/// searched alike with an end and without.
+#[test]
+fn nothing_stands_behind_the_ends() {
+    for stage in [workload::stage(), short_list::stage()] {
+        let mut monitor = Monitor::new();
+        for (domain, call) in calls(&input(&stage)) {
+            assert!(monitor.call(domain, &call).is_ok());
+        }
+        let slots = monitor.domains.iter().flat_map(|d| &d.now.slots);
+        for list in slots.map(|&slot| monitor.clist(slot).unwrap()) {
+            let end = monitor.list_pairs(list).last().unwrap() + 2;
+            assert!((end..list.words().end).all(|at| monitor.word(at) == 0));
+        }
+    }
+}
+
+/// What the reads behind the short Clist's stage are for.
+#[test]
+fn the_short_list_grants_first_and_last() {
+    let mut monitor = Monitor::new();
+    for (domain, call) in calls(&input(&short_list::stage())) {
+        assert!(monitor.call(domain, &call).is_ok());
+    }
+    let granting = |line: Line| {
+        let (_, call) = calls(&input(&[line])).remove(0);
+        let (address, rights) = wanted(&call).unwrap();
+        let object = &monitor.objects[monitor.index_at(address).unwrap()];
+        monitor.granting_pair(0, object, rights)
+    };
+    let start = short_list::LIST * PAGE_WORDS;
+    assert_eq!(granting(short_list::granted_first()), Some(start));
+    assert_eq!(granting(short_list::granted_last()), Some(start + 18));
+    assert_eq!(granting(short_list::refused()), None);
+    let list = &monitor.objects[monitor.index_at(start).unwrap()];
+    assert_eq!(monitor.list_pairs(list).count() as u64, short_list::PAIRS);
+    assert_eq!(list.pages, 1);
 }

@@ -1,8 +1,10 @@
 //! Inputs whose whole output is written out: the paper's listing, its edges
-//! and its traps, the readings, and lines that cannot be read.
+//! and its traps, the readings, the ends of Clists, and lines that cannot be
+//! read.
 
 mod boots;
 mod edges;
+mod ends;
 mod lists;
 mod objects;
 mod passwords;
@@ -123,7 +125,8 @@ fn whole((name, start, calls): &Written) -> Case {
     case
 }
 
-/// The listing, the cases around the edges, the traps and the readings.
+/// The listing, the cases around the edges, the traps, the readings and the
+/// ends of Clists.
 pub fn paper() -> Vec<Case> {
     let groups = [
         edges::EDGES,
@@ -133,10 +136,11 @@ pub fn paper() -> Vec<Case> {
         passwords::PASSWORDS,
         slots::SLOTS,
         objects::ESTATES,
-        lists::LISTS,
         ranges::RANGES,
+        ends::ENDS,
     ];
-    groups.into_iter().flatten().map(whole).collect()
+    let written = groups.into_iter().flatten().map(whole);
+    written.chain(lists::lists()).collect()
 }
 
 /// All cases.

@@ -1,6 +1,7 @@
 //! Counters of the answers, situations and bounds that inputs come to.
 
 use super::bounds::bounds;
+use super::restored::Restored;
 use super::seen::Seen;
 use super::situations::situations;
 use super::table::{letters_of, pairs, NO_LETTERS, TABLE};
@@ -53,6 +54,7 @@ impl Coverage {
         // One call behind `after`.
         let mut before = Monitor::new();
         let mut after = Monitor::new();
+        let mut restored = Restored::default();
         let mut booted = false;
         let mut line = Vec::new();
         while let Some(whole) =
@@ -73,12 +75,16 @@ impl Coverage {
             self.note_situations(&Seen {
                 before: &before,
                 after: &after,
+                restored: &restored,
                 booted,
                 domain,
                 call: &call,
                 outcome: &outcome,
             });
-            booted |= letters == "BT" && answer == 0;
+            if answer == 0 {
+                restored.note(&before, &after, &call);
+                booted |= letters == "BT";
+            }
             drop(before.call(domain, &call));
         }
     }

@@ -3,12 +3,14 @@
 
 mod bounds;
 mod count;
+mod restored;
 mod seen;
 mod situations;
 mod table;
 
 pub use bounds::BOUNDS;
 pub use count::Coverage;
+pub use restored::Restored;
 pub use seen::Seen;
 pub use situations::{situations, Situation};
 pub use table::{letters_of, pairs, NO_LETTERS, TABLE};

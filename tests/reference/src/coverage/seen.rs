@@ -1,11 +1,18 @@
 //! A call as the situations look at it.
 
+use super::restored::Restored;
 use crate::monitor::*;
 
-/// A call with the state before and after it.
+fn decides(mode: u64, rights: u64) -> bool {
+    mode_grants(mode, rights) || mode_denies(mode, rights)
+}
+
+/// A call with the state before and after it, and the pairs that WRs brought
+/// back from behind an end before it.
 pub struct Seen<'a> {
     pub before: &'a Monitor,
     pub after: &'a Monitor,
+    pub restored: &'a Restored,
     pub booted: bool,
     pub domain: u64,
     pub call: &'a Call,
@@ -66,6 +73,11 @@ impl Seen<'_> {
     /// The true pairs for the wanted object in searching order: slot,
     /// address, mode.
     pub(super) fn pairs(&self) -> Vec<(usize, u64, u64)> {
+        self.true_pairs(|list| self.before.list_pairs(list).collect())
+    }
+
+    /// The true pairs among those at `places` of each Clist.
+    fn true_pairs(&self, places: impl Fn(&Object) -> Vec<u64>) -> Vec<(usize, u64, u64)> {
         let (Some((object, _)), Some(now)) = (self.wanted(), self.now()) else {
             return Vec::new();
         };
@@ -74,7 +86,7 @@ impl Seen<'_> {
             let Some(list) = self.before.clist(slot) else {
                 continue;
             };
-            for at in list.words().step_by(2) {
+            for at in places(list) {
                 if self.before.word(at) / 256 == object.base {
                     if let Some(mode) = object.mode(self.before.word(at + 1)) {
                         found.push((i, at, mode));
@@ -94,9 +106,16 @@ impl Seen<'_> {
     /// The slot, address and mode of the pair that decided.
     pub(super) fn decider(&self) -> Option<(usize, u64, u64)> {
         let rights = self.judged()?;
-        self.pairs()
-            .into_iter()
-            .find(|&(_, _, mode)| mode_grants(mode, rights) || mode_denies(mode, rights))
+        let pairs = self.pairs();
+        pairs.into_iter().find(|p| decides(p.2, rights))
+    }
+
+    /// The slot, address and mode of the pair that would decide if every
+    /// Clist were its whole object.
+    pub(super) fn decider_without_ends(&self) -> Option<(usize, u64, u64)> {
+        let rights = self.judged()?;
+        let pairs = self.true_pairs(|list| list.words().step_by(2).collect());
+        pairs.into_iter().find(|p| decides(p.2, rights))
     }
 
     /// The decider, when the call was done.

@@ -8,7 +8,7 @@ pub(super) fn owner(model: &Monitor, object: &Object) -> Option<usize> {
 }
 
 /// The passwords by which the object is a Clist.
-fn list_passwords(object: &Object) -> impl Iterator<Item = u64> + '_ {
+pub(super) fn list_passwords(object: &Object) -> impl Iterator<Item = u64> + '_ {
     let good = object.passwords.iter().filter(|p| mode_grants(p.mode, R));
     good.map(|p| p.word)
 }

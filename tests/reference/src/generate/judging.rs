@@ -42,7 +42,7 @@ impl Generator {
     }
 
     /// The pair that grants R, its Clist, and a domain that may write there.
-    fn granting_place(&self, d: usize, object: &Object) -> Option<(u64, Object, usize)> {
+    pub(super) fn granting_place(&self, d: usize, object: &Object) -> Option<(u64, Object, usize)> {
         let at = self.model.granting_pair(d, object, R)?;
         let list = self.model.objects[self.model.index_at(at)?].clone();
         let writer = self.writer(d, &list)?;
@@ -50,7 +50,7 @@ impl Generator {
     }
 
     /// Calls that want various rights on the object.
-    fn try_rights(&mut self, d: usize, object: &Object) {
+    pub(super) fn try_rights(&mut self, d: usize, object: &Object) {
         let address = self.within(object);
         for _ in 0..2 + self.random.below(4) {
             match self.random.below(7) {
@@ -103,10 +103,6 @@ impl Generator {
             self.make_tome(d);
             return;
         };
-        let target = self.unread(d, None);
-        let (Some(writer), Some((target, word))) = (self.writer(d, list), target) else {
-            return;
-        };
         let words = list.words();
         let at = match self.random.below(4) {
             0 => words.end - 2,
@@ -114,10 +110,7 @@ impl Generator {
             2 => words.start + PAGE_WORDS - 2,
             _ => words.start + 2 * self.random.below(list.pairs()),
         };
-        self.write_pair(writer, at, target.base, word);
-        let address = self.within(&target);
-        self.push(d, "LK", &[address, R]);
-        self.push(d, "RD", &[address]);
+        self.reach(d, list, at);
     }
 
     /// A Clist of several pages, and a slot for it.

@@ -3,6 +3,7 @@
 
 mod access;
 mod boot;
+mod ends;
 mod finding;
 mod ghost;
 mod judging;
@@ -17,6 +18,7 @@ mod registrations;
 mod slots;
 mod stray;
 mod values;
+mod zero_pairs;
 
 pub use kinds::{edges, kind, Kind};
 pub use line::Line;

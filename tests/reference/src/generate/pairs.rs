@@ -3,7 +3,8 @@
 use super::*;
 
 impl Generator {
-    /// The first empty pair of a Clist that no queued line will fill.
+    /// The first zero pair of a Clist's object that no queued line will fill:
+    /// a pair that is written there is the Clist's last.
     pub(super) fn free_pair(&self, list: &Object) -> Option<u64> {
         let words = list.words();
         (words.start..words.end).step_by(2).find(|&at| {
@@ -16,10 +17,10 @@ impl Generator {
         })
     }
 
-    /// A place for a new pair.
+    /// A place for a new pair: mostly the end, else in the Clist or behind it.
     pub(super) fn place(&mut self, list: &Object) -> u64 {
         let words = list.words();
-        if self.random.percent(65) {
+        if self.random.percent(75) {
             if let Some(at) = self.free_pair(list) {
                 return at;
             }

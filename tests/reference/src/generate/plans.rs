@@ -5,7 +5,7 @@ use super::*;
 type Plan = fn(&mut Generator, usize);
 
 /// What a domain may set out to do, and how often.
-pub(super) const PLANS: [(Plan, u64); 28] = [
+pub(super) const PLANS: [(Plan, u64); 32] = [
     (Generator::access, 30),
     (Generator::look, 10),
     (Generator::share, 8),
@@ -34,6 +34,10 @@ pub(super) const PLANS: [(Plan, u64); 28] = [
     (Generator::stumble, 2),
     (Generator::strip, 1),
     (Generator::tome, 2),
+    (Generator::scrap, 3),
+    (Generator::early_end, 2),
+    (Generator::earlier_scrap, 2),
+    (Generator::full_list, 1),
 ];
 
 /// Plans that can be done before the first BT.

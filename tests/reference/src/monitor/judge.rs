@@ -1,4 +1,5 @@
-//! Which capabilities open a Clist, and which pairs grant an access.
+//! Which capabilities open a Clist, where it ends, and which pairs grant an
+//! access.
 
 use super::*;
 
@@ -11,6 +12,13 @@ impl Monitor {
         mode_grants(mode, R).then_some(object)
     }
 
+    /// The addresses of a Clist's pairs. It ends before the object's first
+    /// pair whose two words are both zero.
+    pub fn list_pairs(&self, list: &Object) -> impl Iterator<Item = u64> + '_ {
+        let places = list.words().step_by(2);
+        places.take_while(|&at| self.word(at) != 0 || self.word(at + 1) != 0)
+    }
+
     /// Rules 2 to 4: the address of the pair that grants, if the first
     /// deciding pair grants.
     pub fn granting_pair(&self, domain: usize, object: &Object, wanted: u64) -> Option<u64> {
@@ -18,8 +26,7 @@ impl Monitor {
             let Some(list) = self.clist(slot) else {
                 continue;
             };
-            for place in 0..list.pairs() {
-                let at = list.base * PAGE_WORDS + 2 * place;
+            for at in self.list_pairs(list) {
                 if self.word(at) / 256 != object.base {
                     continue;
                 }

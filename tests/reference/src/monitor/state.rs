@@ -76,6 +76,7 @@ impl Object {
         self.base * PAGE_WORDS..(self.base + self.pages) * PAGE_WORDS
     }
 
+    /// The pairs that the object has room for; as a Clist it may end before.
     pub fn pairs(&self) -> u64 {
         self.pages * PAIRS_PER_PAGE
     }

@@ -3,6 +3,7 @@
 use refmonitor::coverage::letters_of;
 use refmonitor::generate::Line;
 use refmonitor::lines::{self, LETTERS};
+use refmonitor::short_list;
 use refmonitor::workload::{self, MIXED, WORKLOAD};
 use std::io;
 
@@ -45,8 +46,29 @@ impl Load {
     }
 }
 
-/// Lines that are measured by themselves.
-pub fn kinds() -> Vec<(&'static str, Vec<Line>)> {
+/// Lines that are measured by themselves, each kind with its name, and the
+/// stage before them.
+pub struct Kinds {
+    pub stage: Vec<Line>,
+    pub kinds: Vec<(&'static str, Vec<Line>)>,
+}
+
+/// All kinds of lines: those behind the stage of the loads, and those behind
+/// a stage with a short Clist.
+pub fn kinds() -> [Kinds; 2] {
+    [
+        Kinds {
+            stage: workload::stage(),
+            kinds: behind_the_loads_stage(),
+        },
+        Kinds {
+            stage: short_list::stage(),
+            kinds: with_a_short_list(),
+        },
+    ]
+}
+
+fn behind_the_loads_stage() -> Vec<(&'static str, Vec<Line>)> {
     let line = |d: u64, letters, args: &[u64]| vec![Line::new(d, letters, args)];
     let data = workload::data_word;
     let call = Line::new(3, "CA", &[workload::entry(3), 0]);
@@ -78,10 +100,27 @@ pub fn kinds() -> Vec<(&'static str, Vec<Line>)> {
     ]
 }
 
+fn with_a_short_list() -> Vec<(&'static str, Vec<Line>)> {
+    vec![
+        (
+            "RD granted by the first of 10 pairs in a page, behind the home's",
+            vec![short_list::granted_first()],
+        ),
+        (
+            "RD granted by the last of 10 pairs in a page, behind the home's",
+            vec![short_list::granted_last()],
+        ),
+        (
+            "RD granted by none of 10 pairs in a page, refused by 7",
+            vec![short_list::refused()],
+        ),
+    ]
+}
+
 /// The stage, then so many lines, the given ones over and over.
-pub fn repeated(lines: &[Line], count: u64) -> Vec<u8> {
+pub fn repeated(stage: &[Line], lines: &[Line], count: u64) -> Vec<u8> {
     let mut input = Vec::new();
-    for line in workload::stage() {
+    for line in stage {
         input.extend(line.bytes());
         input.push(b'\n');
     }

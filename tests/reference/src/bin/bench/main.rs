@@ -7,7 +7,7 @@ mod report;
 mod times;
 
 use instructions::Count;
-use loads::{repeated, Load};
+use loads::{repeated, Kinds, Load};
 use refmonitor::generate::Line;
 use refmonitor::workload;
 use report::thousands;
@@ -32,10 +32,10 @@ fn fault(what: String) -> io::Error {
     io::Error::other(what)
 }
 
-/// Instructions a line on the loads, and where they go. What the stage alone
-/// takes is given back.
-fn count_loads(pair: &Pair, loads: &[Load]) -> io::Result<Vec<Count>> {
-    let stage = instructions::both(pair, &repeated(&[], 0), &[])?;
+/// Instructions a line on the loads, less the stage alone, and where they go.
+fn count_loads(pair: &Pair, loads: &[Load]) -> io::Result<()> {
+    let stage = repeated(&workload::stage(), &[], 0);
+    let stage = instructions::both(pair, &stage, &[])?;
     let mut counts = Vec::new();
     for load in loads {
         counts.push(instructions::both(pair, &load.input, &stage)?);
@@ -43,7 +43,7 @@ fn count_loads(pair: &Pair, loads: &[Load]) -> io::Result<Vec<Count>> {
     report::instructions(loads, &counts, workload::stage().len() as u64);
     report::parts(loads, &counts);
     report::symbols(loads, &counts);
-    Ok(stage)
+    Ok(())
 }
 
 /// Instructions of a call of `sound`, by a program that stands beside the one
@@ -81,22 +81,30 @@ fn time_loads(pair: &Pair, loads: &[Load]) -> io::Result<()> {
     Ok(())
 }
 
-/// Lines of a single kind behind the stage, less the stage alone.
-fn kinds(pair: &Pair, stage: Option<&[Count]>) -> io::Result<()> {
-    let base = times::best(pair, &repeated(&[], 0))?;
-    let counted = |lines: &[Line], stage| -> io::Result<[f64; 2]> {
-        let both = instructions::both(pair, &repeated(lines, COUNTED), stage)?;
-        Ok([0, 1].map(|i| both[i].total() as f64 / COUNTED as f64))
-    };
-    let mut kinds = Vec::new();
-    for (name, lines) in loads::kinds() {
-        let counts = stage.map(|stage| counted(&lines, stage)).transpose()?;
-        let best = times::best(pair, &repeated(&lines, TIMED))?;
-        let each = |i: usize| best[i].saturating_sub(base[i]).as_nanos() as f64 / TIMED as f64;
-        kinds.push((name, counts, [each(0), each(1)]));
+/// Lines of a single kind behind their stage, less the stage alone.
+fn kinds(pair: &Pair, counting: bool) -> io::Result<()> {
+    let mut measured = Vec::new();
+    for Kinds { stage, kinds } in loads::kinds() {
+        let alone = repeated(&stage, &[], 0);
+        let base = times::best(pair, &alone)?;
+        let less = match counting {
+            true => Some(instructions::both(pair, &alone, &[])?),
+            false => None,
+        };
+        let counted = |lines: &[Line], less: &[Count]| -> io::Result<[f64; 2]> {
+            let both = instructions::both(pair, &repeated(&stage, lines, COUNTED), less)?;
+            Ok([0, 1].map(|i| both[i].total() as f64 / COUNTED as f64))
+        };
+        for (name, lines) in kinds {
+            let less = less.as_deref();
+            let counts = less.map(|less| counted(&lines, less)).transpose()?;
+            let best = times::best(pair, &repeated(&stage, &lines, TIMED))?;
+            let each = |i: usize| best[i].saturating_sub(base[i]).as_nanos() as f64 / TIMED as f64;
+            measured.push((name, counts, [each(0), each(1)]));
+        }
     }
     println!("A line by kind, {COUNTED} lines counted and {TIMED} timed:\n");
-    report::kinds(&kinds);
+    report::kinds(&measured);
     Ok(())
 }
 
@@ -116,16 +124,15 @@ fn run(args: &[String]) -> io::Result<()> {
         println!("{}", load.mix());
     }
     println!();
-    let stage = if instructions::installed() {
-        let stage = count_loads(&pair, &loads)?;
+    let counting = instructions::installed();
+    if counting {
+        count_loads(&pair, &loads)?;
         count_sound(&pair)?;
-        Some(stage)
     } else {
         println!("valgrind is not installed here, so no instructions are counted\n");
-        None
-    };
+    }
     time_loads(&pair, &loads)?;
-    kinds(&pair, stage.as_deref())
+    kinds(&pair, counting)
 }
 
 fn main() -> ExitCode {

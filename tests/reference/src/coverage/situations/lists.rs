@@ -41,7 +41,7 @@ pub(super) const LISTS: &[Situation] = &[
         };
         at / PAGE_WORDS != now.slots[slot].page
     }),
-    ("granted by the last pair of a Clist", |s| {
+    ("granted by the last pair of a full Clist", |s| {
         let Some((_, at, _)) = s.granter() else {
             return false;
         };
@@ -55,7 +55,7 @@ pub(super) const LISTS: &[Situation] = &[
         s.judged().is_some()
             && now.slots.iter().any(|&c| {
                 s.before.clist(c).is_some_and(|list| {
-                    list.words().step_by(2).any(|at| {
+                    s.before.list_pairs(list).any(|at| {
                         let page = s.before.word(at) / 256;
                         page > 127
                             && page % 128 == object.base

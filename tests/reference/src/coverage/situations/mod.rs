@@ -1,6 +1,7 @@
 //! Situations that a good run comes to.
 
 mod boots;
+mod ends;
 mod faults;
 mod judging;
 mod lists;
@@ -16,10 +17,11 @@ use crate::monitor::*;
 /// A situation's name, and whether a call is in it.
 pub type Situation = (&'static str, fn(&Seen) -> bool);
 
-const GROUPS: [&[Situation]; 9] = [
+const GROUPS: [&[Situation]; 10] = [
     boots::BOOTS,
     judging::JUDGING,
     lists::LISTS,
+    ends::ENDS,
     objects::OBJECTS,
     passwords::PASSWORDS,
     registrations::REGISTRATIONS,

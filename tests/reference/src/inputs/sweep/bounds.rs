@@ -44,8 +44,8 @@ impl Sweep {
     fn in_a_call(&mut self, line: &Line) {
         self.stage();
         self.add("0,RG,0,31,32,12,0,63");
-        self.add("0,WR,6,0");
-        self.add("0,WR,7,31");
+        self.add("0,WR,4,0");
+        self.add("0,WR,5,31");
         self.add("0,CA,0,0");
         self.add(line.fields().join(","));
         self.add("0,GT");

@@ -29,7 +29,7 @@ impl Sweep {
         }
     }
 
-    /// Every place of a long Clist.
+    /// Every place of a long Clist; the pairs before it keep their first word.
     pub(super) fn pairs(&mut self) {
         self.boot();
         self.add("0,CR,1,31,21");
@@ -41,6 +41,22 @@ impl Sweep {
             self.add(format!("0,WR,{},12", at + 1));
             self.add("0,LK,2048,1");
             self.add(format!("0,WR,{},0", at + 1));
+        }
+    }
+
+    /// The long Clist, with its end at every place ahead of the pair that
+    /// grants, and with pairs of one zero word there.
+    pub(super) fn ends(&mut self) {
+        self.add("0,WR,2047,12");
+        for at in (64..2046).step_by(2) {
+            self.add(format!("0,WR,{at},0"));
+            self.add("0,LK,2048,1");
+            self.add(format!("0,WR,{},1", at + 1));
+            self.add("0,LK,2048,1");
+            if at % 4 == 0 {
+                self.add(format!("0,WR,{at},8192"));
+                self.add(format!("0,WR,{},0", at + 1));
+            }
         }
     }
 }

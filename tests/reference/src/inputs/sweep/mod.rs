@@ -16,6 +16,7 @@ pub fn sweep() -> Vec<u8> {
     sweep.modes();
     sweep.bounds();
     sweep.pairs();
+    sweep.ends();
     sweep.addresses();
     sweep.slots();
     sweep.choices();
@@ -41,7 +42,7 @@ impl Sweep {
     fn stage(&mut self) {
         self.boot();
         self.add("0,CR,1,2,21");
-        self.add("0,WR,4,256");
-        self.add("0,WR,5,21");
+        self.add("0,WR,2,256");
+        self.add("0,WR,3,21");
     }
 }

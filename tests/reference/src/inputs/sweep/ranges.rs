@@ -23,8 +23,8 @@ impl Sweep {
             for first in [1, 2, 3, 30, 31, 32] {
                 self.add(format!("0,CR,{first},{count},5"));
                 self.add(format!("0,CR,{first},{count},5"));
-                self.add(format!("0,WR,6,{}", first * 256));
-                self.add("0,WR,7,5");
+                self.add(format!("0,WR,4,{}", first * 256));
+                self.add("0,WR,5,5");
                 self.add(format!("0,DL,{first}"));
             }
         }

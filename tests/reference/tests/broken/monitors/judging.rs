@@ -4,61 +4,36 @@ use super::*;
 
 pub(super) const JUDGING: &[Broken] = &[
     ("negative pairs ignored", |m, _, d, c| {
-        misjudge(m, d, c, true_mode, |_, _| false)
+        let denies = |_, _| false;
+        Judge { denies, ..RIGHT }.look(m, d, c)
     }),
     ("negative pairs deny only all", |m, _, d, c| {
-        misjudge(m, d, c, true_mode, |mode, wanted| {
-            mode & NOT != 0 && mode & wanted == wanted
-        })
+        let denies = |mode, wanted| mode & NOT != 0 && mode & wanted == wanted;
+        Judge { denies, ..RIGHT }.look(m, d, c)
     }),
     ("negative pairs deny everything", |m, _, d, c| {
-        misjudge(m, d, c, true_mode, |mode, _| mode & NOT != 0)
+        let denies = |mode, _| mode & NOT != 0;
+        Judge { denies, ..RIGHT }.look(m, d, c)
     }),
     ("page cut to seven bits", |m, _, d, c| {
-        misjudge(
-            m,
-            d,
-            c,
-            |o, word, password| true_mode(o, word & 0x7fff, password),
-            mode_denies,
-        )
+        let mode = |o: &Object, word, password| true_mode(o, word & 0x7fff, password);
+        Judge { mode, ..RIGHT }.look(m, d, c)
     }),
     ("password cut to 32 bits", |m, _, d, c| {
-        misjudge(
-            m,
-            d,
-            c,
-            |o, word, password| {
-                let known = o.passwords.iter();
-                let mut alike = known.filter(|p| p.word as u32 == password as u32);
-                let alike = alike.next().map_or(password, |p| p.word);
-                true_mode(o, word, alike)
-            },
-            mode_denies,
-        )
+        let mode = |o: &Object, word, password| {
+            let known = o.passwords.iter();
+            let mut alike = known.filter(|p| p.word as u32 == password as u32);
+            let alike = alike.next().map_or(password, |p| p.word);
+            true_mode(o, word, alike)
+        };
+        Judge { mode, ..RIGHT }.look(m, d, c)
     }),
     ("registration's password never true", |m, _, d, c| {
-        misjudge(
-            m,
-            d,
-            c,
-            |o, word, password| true_mode(o, word, password).filter(|&mode| mode != P),
-            mode_denies,
-        )
-    }),
-    ("only the first page of a Clist", |m, _, d, c| {
-        let outcome = m.call(d, c);
-        match (looks(d, c), &outcome) {
-            (Some(_), Ok(Done::Value(at))) => {
-                let list = &m.objects[m.index_at(*at).unwrap()];
-                if at / 64 == list.base {
-                    outcome
-                } else {
-                    Err(Refusal::NotGranted)
-                }
-            }
-            _ => outcome,
-        }
+        let mode = |o: &Object, word, password| {
+            let mode = true_mode(o, word, password);
+            mode.filter(|&mode| mode != P)
+        };
+        Judge { mode, ..RIGHT }.look(m, d, c)
     }),
     ("LK gives the pair's number", |m, _, d, c| {
         let outcome = m.call(d, c);

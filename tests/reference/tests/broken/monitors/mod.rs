@@ -1,8 +1,10 @@
 //! Broken monitors.
 
 mod boots;
+mod ends;
 mod judging;
 mod objects;
+mod pages;
 mod procedures;
 mod shams;
 mod slots;
@@ -29,11 +31,13 @@ pub fn run_broken(answer: Answer, input: &[u8]) -> Ran {
 /// A name, and the way of answering.
 type Broken = (&'static str, Answer);
 
+/// Those that a short run shows.
 fn broken() -> impl Iterator<Item = Broken> {
     let groups = [
         shams::SHAMS,
         traps::TRAPS,
         judging::JUDGING,
+        ends::ENDS,
         objects::OBJECTS,
         slots::SLOTS,
         procedures::PROCEDURES,
@@ -42,38 +46,52 @@ fn broken() -> impl Iterator<Item = Broken> {
     groups.into_iter().flatten().copied()
 }
 
-/// The mode of a pair for an object, by the pair's words.
-type Mode = fn(&Object, u64, u64) -> Option<u64>;
-
-/// A judge with faults: `mode` of a true pair by its word and password, and
-/// whether a negative mode denies.
-fn judge(
-    m: &Monitor,
-    d: u64,
-    address: u64,
-    wanted: u64,
-    mode: Mode,
+/// A way of judging.
+#[derive(Clone, Copy)]
+struct Judge {
+    /// The addresses of a Clist's pairs.
+    pairs: fn(&Monitor, &Object) -> Vec<u64>,
+    /// The mode of a pair for an object, by the pair's words.
+    mode: fn(&Object, u64, u64) -> Option<u64>,
+    /// Whether a mode denies the wanted rights.
     denies: fn(u64, u64) -> bool,
-) -> Outcome {
-    let Some(index) = m.index_at(address) else {
-        return Err(Refusal::NotGranted);
-    };
-    let object = &m.objects[index];
-    for &slot in &m.domains[d as usize].now.slots {
-        let Some(list) = m.clist(slot) else { continue };
-        for at in list.words().step_by(2) {
-            let Some(mode) = mode(object, m.word(at), m.word(at + 1)) else {
-                continue;
-            };
-            if mode_grants(mode, wanted) {
-                return Ok(Done::Value(at));
-            }
-            if denies(mode, wanted) {
-                return Err(Refusal::NotGranted);
+}
+
+/// The way that is right; a broken one differs from it.
+const RIGHT: Judge = Judge {
+    pairs: |m, list| m.list_pairs(list).collect(),
+    mode: true_mode,
+    denies: mode_denies,
+};
+
+impl Judge {
+    fn judge(self, m: &Monitor, d: u64, address: u64, wanted: u64) -> Outcome {
+        let index = m.index_at(address).ok_or(Refusal::NotGranted)?;
+        let object = &m.objects[index];
+        for &slot in &m.domains[d as usize].now.slots {
+            let Some(list) = m.clist(slot) else { continue };
+            for at in (self.pairs)(m, list) {
+                let Some(mode) = (self.mode)(object, m.word(at), m.word(at + 1)) else {
+                    continue;
+                };
+                if mode_grants(mode, wanted) {
+                    return Ok(Done::Value(at));
+                }
+                if (self.denies)(mode, wanted) {
+                    return Err(Refusal::NotGranted);
+                }
             }
         }
+        Err(Refusal::NotGranted)
     }
-    Err(Refusal::NotGranted)
+
+    /// LK in this way, the other calls as they should be.
+    fn look(self, m: &mut Monitor, d: u64, c: &Call) -> Outcome {
+        match looks(d, c) {
+            Some((at, rights)) => self.judge(m, d, at, rights),
+            None => m.call(d, c),
+        }
+    }
 }
 
 /// The mode as it should be.
@@ -96,20 +114,6 @@ fn looks(domain: u64, call: &Call) -> Option<(u64, u64)> {
     }
 }
 
-/// LK by a judge with faults.
-fn misjudge(
-    m: &mut Monitor,
-    d: u64,
-    c: &Call,
-    mode: Mode,
-    denies: fn(u64, u64) -> bool,
-) -> Outcome {
-    match looks(d, c) {
-        Some((at, rights)) => judge(m, d, at, rights, mode, denies),
-        None => m.call(d, c),
-    }
-}
-
 fn now(m: &mut Monitor, domain: u64) -> &mut Frame {
     &mut m.domains[domain as usize].now
 }
@@ -119,13 +123,16 @@ fn broken_monitors_are_found() {
     for (name, answer) in broken() {
         found(name, &mut |input, _| run_broken(answer, input), 20);
     }
+    for &(name, answer) in pages::PAGES_FULL {
+        found(name, &mut |input, _| run_broken(answer, input), 50);
+    }
 }
 
 /// The generated lines find each of them too, without the written cases and
 /// the sweeps.
 #[test]
 fn generated_lines_find_broken_monitors() {
-    for (name, answer) in broken() {
+    for (name, answer) in broken().chain(pages::PAGES_FULL.iter().copied()) {
         let broken = |seed| {
             let input = refmonitor::inputs::input(seed, 5000);
             run_broken(answer, &input).output != run_bytes(&input)

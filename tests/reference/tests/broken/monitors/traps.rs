@@ -4,13 +4,11 @@ use super::*;
 
 pub(super) const TRAPS: &[Broken] = &[
     ("rights from the hint", |m, _, d, c| {
-        misjudge(
-            m,
-            d,
-            c,
-            |o, word, password| true_mode(o, word, password).map(|_| word & 255),
-            mode_denies,
-        )
+        let mode = |o: &Object, word, password| {
+            let mode = true_mode(o, word, password);
+            mode.map(|_| word & 255)
+        };
+        Judge { mode, ..RIGHT }.look(m, d, c)
     }),
     ("joined rights", |m, _, d, c| {
         let outcome = m.call(d, c);
@@ -22,7 +20,7 @@ pub(super) const TRAPS: &[Broken] = &[
         }
         let mut last = outcome;
         for bit in (0..5).map(|b| 1 << b).filter(|b| rights & b != 0) {
-            last = judge(m, d, address, bit, true_mode, mode_denies);
+            last = RIGHT.judge(m, d, address, bit);
             if last.is_err() {
                 break;
             }
