@@ -10,8 +10,9 @@ pub mod Fit
 pub mod Sound
 pub mod Booted
 pub mod Agree
+pub mod Viewed
 pub mod Places
-pub mod Scraps
+pub mod Behind
 pub mod Zeroed
 pub mod Parts
 pub mod Told

@@ -4,4 +4,4 @@ pub mod Compared
 pub mod Shown
 pub mod Holds
 pub mod Needed
-pub mod Scraps
+pub mod Behind

@@ -5,4 +5,4 @@ pub mod Exactly
 pub mod Local
 pub mod Grant
 pub mod Places
-pub mod Scraps
+pub mod Behind

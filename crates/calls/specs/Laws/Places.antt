@@ -2,7 +2,6 @@
 -- common is `SameWorld`.
 pub mod Worlds
 pub mod Objects
-pub mod Viewed
 mod Calls
 pub mod Chosen
 use Prim.Native.Nat.{ℕ}
@@ -24,7 +23,7 @@ use Rattle.calls.specs.View.{Want, nothing, rights, World}
 use Rattle.calls.specs.Rules.{wanted, inRange, unlocked, early, view, checks}
 use Rattle.calls.specs.Step.{refused, stepBy, step}
 use Rattle.calls.specs.Laws.Places.Worlds.{SameWorld, SameResult, on, same-tables, refused-same}
-use Rattle.calls.specs.Laws.Places.Viewed.{judgedOn, search-given}
+use Rattle.calls.specs.Laws.Viewed.{judgedOn, search-given}
 use Rattle.calls.specs.Laws.Places.Calls.{comes-same}
 use Rattle.calls.specs.declared.Call.{Call}
 use Rattle.calls.specs.declared.Refusal.{Refusal}

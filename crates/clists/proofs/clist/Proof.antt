@@ -4,7 +4,7 @@ use mathlib.Core.List.{List}
 use native.Mathlib.Omega.{arith}
 use lib.ListN.{length, take}
 use borrow.Author.Needs.{needs}
-use Rattle.clists.specs.Clist.{runWords, listEnd, untilEnd}
+use Rattle.clists.specs.Clist.{listEnd, untilEnd}
 use Rattle.clists.specs.Laws.Ends.{end-at}
 use Rattle.clists.specs.Laws.Lists.{run-short}
 use Rattle.clists.proofs.clist.Statement.{statement}

@@ -82,7 +82,7 @@ module _ (run run′ : List ℕ) (long : length run ≡ length run′) where
         ending = λ l. h (listEnd run′) l ∙ end-at run′ .ending (omega arith);
       })
 
-  -- SCRAPS ARE NO PART OF A LIST: two runs that agree up to the pair that ends the one's list have the same list.
+  -- WHAT STANDS BEHIND THE END IS NO PART OF A LIST: two runs that agree up to the pair that ends the one's list have the same list.
   pub until-same : ((i : ℕ) → i < reach run → getD run i 0 ≡ getD run′ i 0) → untilEnd run ≡ untilEnd run′
   until-same h = ext-getD 0 _ _ (until-length run ∙ ap (λ n. 2 * n) same ∙ sym (until-length run′)) each
     where

@@ -1,7 +1,7 @@
 -- Which pairs of the store stand in the Clist at a slot: document 02, T-01.
 use Prim.Native.Nat.{ℕ, _+_, _*_, _/_, _<_, _≤_}
-use mathlib.Core.Path.{_≡_, refl, sym, _∙_}
-use mathlib.Core.Bool.{Bool, true, false, cond, true≢false}
+use mathlib.Core.Path.{_≡_, sym, _∙_}
+use mathlib.Core.Bool.{true, false, true≢false}
 use mathlib.Core.List.{List}
 use mathlib.Core.Logic.{_↔_, _⊎_, inl, inr}
 use native.Mathlib.Omega.{arith}
@@ -13,7 +13,7 @@ use Rattle.state.specs.Places.{slotAt}
 use Rattle.state.specs.declared.Object.{Object}
 use Rattle.state.specs.declared.Table.{Table}
 use Rattle.state.specs.declared.Frame.{Frame}
-use Rattle.clists.specs.Clist.{named, live, runWords, zeroPair, listEnd, untilEnd, clist, listAt}
+use Rattle.clists.specs.Clist.{named, live, runWords, zeroPair, listEnd, clist, listAt}
 use Rattle.clists.specs.Laws.Live.{live-base}
 use Rattle.clists.specs.Laws.Ends.{end-at, until-length}
 use Rattle.clists.specs.Laws.Lists.{run-length, run-short, run-zero, list-live, list-alive}

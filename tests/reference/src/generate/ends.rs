@@ -8,7 +8,7 @@ use super::*;
 impl Generator {
     /// A pair behind the end of a Clist, which then grows up to the pair, and
     /// mostly ends ahead of it again.
-    pub(super) fn scrap(&mut self, d: usize) {
+    pub(super) fn pair_behind(&mut self, d: usize) {
         let Some((target, password)) = self.unread(d, None) else {
             return;
         };
@@ -50,7 +50,7 @@ impl Generator {
 
     /// A pair behind the end of a Clist that would decide ahead of the one
     /// that grants.
-    pub(super) fn earlier_scrap(&mut self, d: usize) {
+    pub(super) fn earlier_pair_behind(&mut self, d: usize) {
         let Some(object) = self
             .find(|m, o| m.granting_pair(d, o, R).is_some() && list_passwords(o).next().is_some())
         else {

@@ -34,9 +34,9 @@ pub(super) const PLANS: [(Plan, u64); 32] = [
     (Generator::stumble, 2),
     (Generator::strip, 1),
     (Generator::tome, 2),
-    (Generator::scrap, 3),
+    (Generator::pair_behind, 3),
     (Generator::early_end, 2),
-    (Generator::earlier_scrap, 2),
+    (Generator::earlier_pair_behind, 2),
     (Generator::full_list, 1),
 ];
 

@@ -34,7 +34,7 @@ use Rattle.calls.specs.Step.{refused, concluded}
 use Rattle.calls.specs.Laws.Searched.{called-registered}
 use Rattle.calls.specs.Laws.Agree.{inside-same, entry-same}
 use Rattle.calls.specs.Laws.Places.Worlds.{SameWorld, SameResult, on, same-tables, refused-same}
-use Rattle.calls.specs.Laws.Places.Viewed.{judgedOn, sees, comes, passed}
+use Rattle.calls.specs.Laws.Viewed.{judgedOn, sees, comes, passed}
 use Rattle.calls.specs.Laws.Places.Objects.{Twins, create-pages, add-word, place-free, run-free, created-same, becomes-same, has-same, room-same, added-same, dropped-same, registered-same}
 use Rattle.calls.specs.declared.Call.{Call}
 use Rattle.calls.specs.declared.Call.the-variants.{OnStore, OnObject, OnDomain}

@@ -1,4 +1,4 @@
--- The premise on searched lists reads lists up to their ends: document 02, T-01. A member's list has a scrap behind its end that is true
+-- The premise on searched lists reads lists up to their ends: document 02, T-01. A member's list has a pair behind its end that is true
 -- for an outside object in one run and not in the other, and the claim applies to the two runs all the same.
 use Prim.Native.Nat.{_/_}
 use mathlib.Core.Path.{_≡_, refl}
@@ -31,32 +31,32 @@ membersPart =
     ∷ []
 
 -- in one run the outsider creates that page, with that password
-abbrev pub scraps : Told
-scraps = told (by 0 (OnObject (Create 1 1 21)) done ∷ membersPart)
+abbrev pub behind : Told
+behind = told (by 0 (OnObject (Create 1 1 21)) done ∷ membersPart)
 
-abbrev pub scraps′ : Told
-scraps′ = told membersPart
+abbrev pub behind′ : Told
+behind′ = told membersPart
 
 -- every premise's test is true, and every part of the conclusion is the same
-pub scraps-shown : Shown judged alone scraps scraps′ allTrue allSame
+pub behind-shown : Shown judged alone behind behind′ allTrue allSame
 unfolding comparing
-scraps-shown = by-computing alone scraps scraps′ allTrue allSame (record { answered = refl; answered′ = refl; tested = refl; compared = refl })
+behind-shown = by-computing alone behind behind′ allTrue allSame (record { answered = refl; answered′ = refl; tested = refl; compared = refl })
 
 -- whether the pair at words 2052 and 2053 is true for no outside object at the end of the first run
-abbrev pub scrapStays : Judging → Bool
-scrapStays judging =
-    let w = traceOf judging alone (runOf scraps) .last in
+abbrev pub behindStays : Judging → Bool
+behindStays judging =
+    let w = traceOf judging alone (runOf behind) .last in
     staysInside alone (w .state .table) (getD (w .words) 2052 0 / 256) (getD (w .words) 2053 0)
 
 -- it is true for one: the premise would be broken if the list had it
-pub scrap-true : scrapStays judged ≡ false
+pub behind-true : behindStays judged ≡ false
 unfolding comparing
-scrap-true = by-search (λ j. scrapStays j ≡ false) refl
+behind-true = by-search (λ j. behindStays j ≡ false) refl
 
 -- so the theorem says of these runs that the member saw and ended with the same
-pub scraps-isolated : Isolated alone (runOf scraps) (runOf scraps′)
+pub behind-isolated : Isolated alone (runOf behind) (runOf behind′)
 unfolding comparing
-scraps-isolated = isolation alone (runOf scraps) (runOf scraps′) (tests-hold alone (runOf scraps) (runOf scraps′) (scraps-shown .tested) same-calls)
+behind-isolated = isolation alone (runOf behind) (runOf behind′) (tests-hold alone (runOf behind) (runOf behind′) (behind-shown .tested) same-calls)
   where
-    same-calls : membersCalls alone (runOf scraps) ≡ membersCalls alone (runOf scraps′)
+    same-calls : membersCalls alone (runOf behind) ≡ membersCalls alone (runOf behind′)
     same-calls = refl

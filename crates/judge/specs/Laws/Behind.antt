@@ -21,9 +21,9 @@ pub record SameToEnds (t : Table) (words words′ : List ℕ) (f : Frame) : Type
   pub lists : (slot : ℕ) → slot < f .count → live t (slotAt f slot) ≡ true → (a : ℕ) → 64 * slotAt f slot .page ≤ a
       → a < 64 * slotAt f slot .page + reach (runWords words (slotAt f slot .page) (named t (slotAt f slot) .pages)) → getD words a 0 ≡ getD words′ a 0
 
--- SCRAPS DO NOT MATTER: such stores are judged alike.
-pub scraps-ignored : (t : Table) (words words′ : List ℕ) (f : Frame) (target : Target) (wanted : ℕ) → SameToEnds t words words′ f
+-- WHAT STANDS BEHIND THE ENDS DOES NOT MATTER: such stores are judged alike.
+pub behind-ignored : (t : Table) (words words′ : List ℕ) (f : Frame) (target : Target) (wanted : ℕ) → SameToEnds t words words′ f
     → judged t words f target wanted ≡ judged t words′ f target wanted
-scraps-ignored t words words′ f target wanted m =
+behind-ignored t words words′ f target wanted m =
     same-judged t t words words′ f target wanted (m .long) (same-refl (targeted t target))
     (λ k l. record { alive = refl; pages = λ a. refl; content = m .lists k l })
