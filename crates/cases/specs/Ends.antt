@@ -1,13 +1,11 @@
 -- Lists that end before their object does, as computed runs behind the listing of document 01: document 02, T-01. Behind the listing the
 -- home of domain 0 holds two pairs, at words 0 and 2; the words from 4 on are zero.
 use Prim.Native.Nat.{ℕ}
-use mathlib.Core.Path.{_≡_, refl}
-use mathlib.Core.List.{List, [], _∷_, _++_, map}
+use mathlib.Core.Path.{refl}
+use mathlib.Core.List.{List, [], _∷_}
 use Rattle.judge.specs.Judged.{judged}
-use Rattle.calls.specs.View.{Judging}
-use Rattle.calls.specs.Step.{worldOf}
-use Rattle.cases.specs.Runs.{Exchange, by, answersBy, expected, by-search}
-use Rattle.cases.specs.Marked.{listingBoot, listing}
+use Rattle.cases.specs.Runs.{Exchange, by, answersBy, by-search}
+use Rattle.cases.specs.Marked.{AnsweredAfterListing}
 use Rattle.calls.specs.declared.Call.the-variants.{OnStore, OnObject, OnDomain}
 use Rattle.calls.specs.declared.Access.the-variants.{Read, Write, Lookup}
 use Rattle.calls.specs.declared.ObjectCall.the-variants.{Create, AddPassword}
@@ -59,10 +57,6 @@ endRuns =
     ∷ [])
     ∷ []
 
-pub ends : map (λ (es : List Exchange). answersBy judged (worldOf listingBoot) (listing ++ es)) endRuns
-    ≡ map (λ (es : List Exchange). expected (listing ++ es)) endRuns
+pub ends : AnsweredAfterListing endRuns judged
 unfolding answersBy
-ends =
-    by-search
-    (λ (j : Judging). map (λ (es : List Exchange). answersBy j (worldOf listingBoot) (listing ++ es)) endRuns ≡ map (λ (es : List Exchange). expected (listing ++ es)) endRuns)
-    refl
+ends = by-search (AnsweredAfterListing endRuns) refl

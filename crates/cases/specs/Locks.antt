@@ -2,16 +2,14 @@
 use Prim.Native.Nat.{ℕ, _<_}
 use mathlib.Core.Path.{_≡_, refl, ap, sym}
 use mathlib.Core.Bool.{true, false}
-use mathlib.Core.List.{List, [], _∷_, _++_, map}
+use mathlib.Core.List.{List, [], _∷_, _++_}
 use native.Mathlib.Omega.{arith}
 use lib.Dec.{eqb}
 use Rattle.state.specs.Update.{lockSlot}
 use Rattle.state.specs.declared.Frame.{Frame}
 use Rattle.judge.specs.Judged.{judged}
-use Rattle.calls.specs.View.{Judging}
-use Rattle.calls.specs.Step.{worldOf}
-use Rattle.cases.specs.Runs.{Exchange, by, answersBy, expected, by-search}
-use Rattle.cases.specs.Marked.{listingBoot, listing, registered}
+use Rattle.cases.specs.Runs.{Exchange, by, answersBy, by-search}
+use Rattle.cases.specs.Marked.{AnsweredAfterListing, registered}
 use Rattle.calls.specs.declared.Call.the-variants.{OnDomain}
 use Rattle.calls.specs.declared.DomainCall.the-variants.{Insert, Remove, Get, Lock, PdxCall, PdxReturn}
 
@@ -37,13 +35,9 @@ lockRuns =
     ∷ [])
     ∷ []
 
-pub locks : map (λ (es : List Exchange). answersBy judged (worldOf listingBoot) (listing ++ es)) lockRuns
-    ≡ map (λ (es : List Exchange). expected (listing ++ es)) lockRuns
+pub locks : AnsweredAfterListing lockRuns judged
 unfolding answersBy
-locks =
-    by-search
-    (λ (j : Judging). map (λ (es : List Exchange). answersBy j (worldOf listingBoot) (listing ++ es)) lockRuns ≡ map (λ (es : List Exchange). expected (listing ++ es)) lockRuns)
-    refl
+locks = by-search (AnsweredAfterListing lockRuns) refl
 
 -- LO of a slot that is locked changes nothing, nor does LO 255 under the whole lock
 pub locked-already : (f : Frame) (i : ℕ) → i < f .locked → eqb i 255 ≡ false → lockSlot f i ≡ f

@@ -54,6 +54,11 @@ registered =
     ∷ by 0 (OnStore (Write 5 32)) (0 ∷ 0 ∷ [])
     ∷ []
 
+-- each of these runs starts after the whole listing, and is answered as it says
+abbrev pub AnsweredAfterListing : List (List Exchange) → Judging → Type 0
+AnsweredAfterListing runs judging =
+    map (λ (es : List Exchange). answersBy judging (worldOf listingBoot) (listing ++ es)) runs ≡ map (λ (es : List Exchange). expected (listing ++ es)) runs
+
 -- the cases; each starts after the whole listing
 abbrev pub cases : List (List Exchange)
 cases =
