@@ -33,7 +33,7 @@ zeroPair run i = eqb (getD run (2 * i) 0) 0 && eqb (getD run (2 * i + 1) 0) 0
 unfoldable pub listEnd : List ℕ → ℕ
 listEnd run = first (zeroPair run) (λ i. i) (length run / 2) 0 (length run / 2)
 
--- these pairs
+-- the words of these pairs
 unfoldable pub untilEnd : List ℕ → List ℕ
 untilEnd run = take (2 * listEnd run) run
 
