@@ -1,11 +1,11 @@
 -- Lists that end before their object does, as computed runs behind the listing of document 01: document 02, T-01. Behind the listing the
 -- home of domain 0 holds two pairs, at words 0 and 2; the words from 4 on are zero.
 use Prim.Native.Nat.{ℕ}
-use mathlib.Core.Path.{refl}
+use mathlib.Core.Path.{_≡_, refl}
 use mathlib.Core.List.{List, [], _∷_}
 use Rattle.judge.specs.Judged.{judged}
 use Rattle.cases.specs.Runs.{Exchange, by, answersBy, by-search}
-use Rattle.cases.specs.Marked.{AnsweredAfterListing}
+use Rattle.cases.specs.Marked.{answersAfter, expectedAfter}
 use Rattle.calls.specs.declared.Call.the-variants.{OnStore, OnObject, OnDomain}
 use Rattle.calls.specs.declared.Access.the-variants.{Read, Write, Lookup}
 use Rattle.calls.specs.declared.ObjectCall.the-variants.{Create, AddPassword}
@@ -57,6 +57,6 @@ endRuns =
     ∷ [])
     ∷ []
 
-pub ends : AnsweredAfterListing endRuns judged
+pub ends : answersAfter judged endRuns ≡ expectedAfter endRuns
 unfolding answersBy
-ends = by-search (AnsweredAfterListing endRuns) refl
+ends = by-search (λ j. answersAfter j endRuns ≡ expectedAfter endRuns) refl

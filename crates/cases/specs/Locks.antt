@@ -9,7 +9,7 @@ use Rattle.state.specs.Update.{lockSlot}
 use Rattle.state.specs.declared.Frame.{Frame}
 use Rattle.judge.specs.Judged.{judged}
 use Rattle.cases.specs.Runs.{Exchange, by, answersBy, by-search}
-use Rattle.cases.specs.Marked.{AnsweredAfterListing, registered}
+use Rattle.cases.specs.Marked.{answersAfter, expectedAfter, registered}
 use Rattle.calls.specs.declared.Call.the-variants.{OnDomain}
 use Rattle.calls.specs.declared.DomainCall.the-variants.{Insert, Remove, Get, Lock, PdxCall, PdxReturn}
 
@@ -35,9 +35,9 @@ lockRuns =
     ∷ [])
     ∷ []
 
-pub locks : AnsweredAfterListing lockRuns judged
+pub locks : answersAfter judged lockRuns ≡ expectedAfter lockRuns
 unfolding answersBy
-locks = by-search (AnsweredAfterListing lockRuns) refl
+locks = by-search (λ j. answersAfter j lockRuns ≡ expectedAfter lockRuns) refl
 
 -- LO of a slot that is locked changes nothing, nor does LO 255 under the whole lock
 pub locked-already : (f : Frame) (i : ℕ) → i < f .locked → eqb i 255 ≡ false → lockSlot f i ≡ f

@@ -54,10 +54,12 @@ registered =
     ∷ by 0 (OnStore (Write 5 32)) (0 ∷ 0 ∷ [])
     ∷ []
 
--- each of these runs starts after the whole listing, and is answered as it says
-abbrev pub AnsweredAfterListing : List (List Exchange) → Judging → Type 0
-AnsweredAfterListing runs judging =
-    map (λ (es : List Exchange). answersBy judging (worldOf listingBoot) (listing ++ es)) runs ≡ map (λ (es : List Exchange). expected (listing ++ es)) runs
+-- the answers of runs that each start after the whole listing, as they are and as they must be
+abbrev pub answersAfter : Judging → List (List Exchange) → List (List (List ℕ))
+answersAfter judging runs = map (λ (es : List Exchange). answersBy judging (worldOf listingBoot) (listing ++ es)) runs
+
+abbrev pub expectedAfter : List (List Exchange) → List (List (List ℕ))
+expectedAfter runs = map (λ (es : List Exchange). expected (listing ++ es)) runs
 
 -- the cases; each starts after the whole listing
 abbrev pub cases : List (List Exchange)
@@ -84,10 +86,10 @@ cases =
 
 -- the whole table: the boot's answer, and the answers of each run
 abbrev pub answered : Judging → List (List (List ℕ))
-answered judging = (answerOf listingBoot ∷ []) ∷ map (λ (es : List Exchange). answersBy judging (worldOf listingBoot) (listing ++ es)) cases
+answered judging = (answerOf listingBoot ∷ []) ∷ answersAfter judging cases
 
 abbrev pub wantedAnswers : List (List (List ℕ))
-wantedAnswers = ((0 ∷ 0 ∷ []) ∷ []) ∷ map (λ (es : List Exchange). expected (listing ++ es)) cases
+wantedAnswers = ((0 ∷ 0 ∷ []) ∷ []) ∷ expectedAfter cases
 
 -- every marked case is answered as the paper says
 pub marked : answered judged ≡ wantedAnswers

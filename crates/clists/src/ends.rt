@@ -15,7 +15,8 @@ fn zero_pair(run: &[u64], i: usize) -> bool
     run[2 * i + 1] == 0
 }
 
-// The pairs of a run before its first pair of two zero words, all of them where there is none; eight looked at in each turn.
+// How many pairs of a run stand before its first pair of two zero words, all of them where there is none. Eight are looked at in each turn;
+// the second loop is for a run of any length, and never turns on one of whole pages.
 pub fn list_end(run: &[u64]) -> usize
     ensures { λ r. ⌜ r ≡ listEnd (now (run .entry)) ⌝ }
 {

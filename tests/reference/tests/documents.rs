@@ -1,4 +1,4 @@
-//! docs/TRACE.md stays true: every path in it exists, and every name stands in the file beside it.
+//! docs/TRACE.md and docs/TRACE-02.md stay true: every path in them exists, and every name stands in the file beside it.
 
 use std::fs;
 use std::path::{Path, PathBuf};
@@ -70,21 +70,25 @@ fn is_row(line: &str) -> bool {
     line.starts_with('|') && !line.starts_with("|---") && !line.starts_with("| What the paper")
 }
 
-#[test]
-fn trace_names_stand_where_it_says() {
-    let trace = fs::read_to_string(root().join("docs/TRACE.md")).expect("docs/TRACE.md");
-    let rows = trace.lines().enumerate().filter(|(_, line)| is_row(line));
-    let found: Vec<String> = rows
+/// The names in a document stand where it says, in so many rows at least.
+fn stays_true(document: &str, rows: usize) {
+    let trace = fs::read_to_string(root().join(document)).expect(document);
+    let lines = trace.lines().enumerate().filter(|(_, line)| is_row(line));
+    let found: Vec<String> = lines
         .filter_map(|(n, line)| {
             let cells: Vec<&str> = line.trim_matches('|').split('|').map(str::trim).collect();
             wrong_row(&cells).map(|why| format!("line {}: {why}", n + 1))
         })
         .collect();
-    assert!(found.is_empty(), "docs/TRACE.md\n{}", found.join("\n"));
-    assert!(
-        trace.lines().filter(|line| is_row(line)).count() > 100,
-        "the tables are missing"
-    );
+    assert!(found.is_empty(), "{document}\n{}", found.join("\n"));
+    let count = trace.lines().filter(|line| is_row(line)).count();
+    assert!(count >= rows, "{document}: tables are missing");
+}
+
+#[test]
+fn trace_names_stand_where_it_says() {
+    stays_true("docs/TRACE.md", 100);
+    stays_true("docs/TRACE-02.md", 12);
 }
 
 #[test]

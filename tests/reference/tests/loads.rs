@@ -143,24 +143,29 @@ fn nothing_stands_behind_the_ends() {
     }
 }
 
-/// What the reads behind the short Clist's stage are for.
+/// What the reads behind the short Clists' stage are for.
 #[test]
-fn the_short_list_grants_first_and_last() {
+fn the_short_lists_grant_first_and_last() {
     let mut monitor = Monitor::new();
     for (domain, call) in calls(&input(&short_list::stage())) {
         assert!(monitor.call(domain, &call).is_ok());
     }
     let granting = |line: Line| {
-        let (_, call) = calls(&input(&[line])).remove(0);
+        let (domain, call) = calls(&input(&[line])).remove(0);
         let (address, rights) = wanted(&call).unwrap();
         let object = &monitor.objects[monitor.index_at(address).unwrap()];
-        monitor.granting_pair(0, object, rights)
+        monitor.granting_pair(domain as usize, object, rights)
     };
-    let start = short_list::LIST * PAGE_WORDS;
-    assert_eq!(granting(short_list::granted_first()), Some(start));
-    assert_eq!(granting(short_list::granted_last()), Some(start + 18));
-    assert_eq!(granting(short_list::refused()), None);
-    let list = &monitor.objects[monitor.index_at(start).unwrap()];
-    assert_eq!(monitor.list_pairs(list).count() as u64, short_list::PAIRS);
-    assert_eq!(list.pages, 1);
+    for (list, slots) in [(short_list::ALONE, 1), (short_list::BEHIND, 2)] {
+        let start = list.page * PAGE_WORDS;
+        assert_eq!(granting(list.granted_first()), Some(start));
+        assert_eq!(granting(list.granted_last()), Some(start + 18));
+        assert_eq!(granting(list.refused()), None);
+        let object = &monitor.objects[monitor.index_at(start).unwrap()];
+        assert_eq!(monitor.list_pairs(object).count() as u64, short_list::PAIRS);
+        assert_eq!(object.pages, 1);
+        let now = &monitor.domains[list.domain as usize].now;
+        assert_eq!(now.slots.len(), slots);
+        assert_eq!(now.slots[slots - 1].page, list.page);
+    }
 }

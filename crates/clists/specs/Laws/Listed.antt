@@ -32,7 +32,7 @@ module _ (words : List ℕ) (base pages i : ℕ) where
   abbrev run : List ℕ
   run = runWords words base pages
 
-  pub before-end : i < listEnd run → (i < 32 * pages) × ((64 * (base + pages) ≤ length words) × ((j : ℕ) → j ≤ i → zeroPair words (32 * base + j) ≡ false))
+  before-end : i < listEnd run → (i < 32 * pages) × ((64 * (base + pages) ≤ length words) × ((j : ℕ) → j ≤ i → zeroPair words (32 * base + j) ≡ false))
   before-end l = (omega (arith, run-short words base pages, end-at run .within), (fits (flag (leb (64 * (base + pages)) (length words))), unended))
     where
       fits : (leb (64 * (base + pages)) (length words) ≡ true) ⊎ (leb (64 * (base + pages)) (length words) ≡ false) → 64 * (base + pages) ≤ length words
@@ -42,7 +42,7 @@ module _ (words : List ℕ) (base pages i : ℕ) where
       unended : (j : ℕ) → j ≤ i → zeroPair words (32 * base + j) ≡ false
       unended j m = sym (run-zero words base pages j (omega (arith, end-at run .within))) ∙ end-at run .before j (omega arith)
 
-  pub end-behind : i < 32 * pages → 64 * (base + pages) ≤ length words → ((j : ℕ) → j ≤ i → zeroPair words (32 * base + j) ≡ false) → i < listEnd run
+  end-behind : i < 32 * pages → 64 * (base + pages) ≤ length words → ((j : ℕ) → j ≤ i → zeroPair words (32 * base + j) ≡ false) → i < listEnd run
   end-behind l m h = go (flag (ltb i (listEnd run)))
     where
       long : length run ≡ 64 * pages

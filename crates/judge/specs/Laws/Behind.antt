@@ -15,7 +15,8 @@ use Rattle.judge.specs.Judged.{judged}
 use Rattle.judge.specs.Laws.Places.{same-judged}
 use Rattle.judge.specs.declared.Target.{Target}
 
--- Two stores that differ only behind the ends of the Clists of a frame's live slots: up to the pair that ends it, each has the same words.
+-- Two stores that differ only behind the ends of the Clists of a frame's live slots: up to and with the pair that
+-- ends it, each has the same words.
 pub record SameToEnds (t : Table) (words words′ : List ℕ) (f : Frame) : Type 0 where
   pub long : length words ≡ length words′
   pub lists : (slot : ℕ) → slot < f .count → live t (slotAt f slot) ≡ true → (a : ℕ) → 64 * slotAt f slot .page ≤ a

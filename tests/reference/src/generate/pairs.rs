@@ -3,8 +3,7 @@
 use super::*;
 
 impl Generator {
-    /// The first zero pair of a Clist's object that no queued line will fill:
-    /// a pair that is written there is the Clist's last.
+    /// The first zero pair of a Clist's object that no queued line will fill.
     pub(super) fn free_pair(&self, list: &Object) -> Option<u64> {
         let words = list.words();
         (words.start..words.end).step_by(2).find(|&at| {

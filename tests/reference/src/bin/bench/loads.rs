@@ -101,18 +101,31 @@ fn behind_the_loads_stage() -> Vec<(&'static str, Vec<Line>)> {
 }
 
 fn with_a_short_list() -> Vec<(&'static str, Vec<Line>)> {
+    let (alone, behind) = (short_list::ALONE, short_list::BEHIND);
     vec![
         (
+            "RD granted by the first of 10 pairs in a page, alone",
+            vec![alone.granted_first()],
+        ),
+        (
+            "RD granted by the last of 10 pairs in a page, alone",
+            vec![alone.granted_last()],
+        ),
+        (
+            "RD granted by none of 10 pairs in a page, alone",
+            vec![alone.refused()],
+        ),
+        (
             "RD granted by the first of 10 pairs in a page, behind the home's",
-            vec![short_list::granted_first()],
+            vec![behind.granted_first()],
         ),
         (
             "RD granted by the last of 10 pairs in a page, behind the home's",
-            vec![short_list::granted_last()],
+            vec![behind.granted_last()],
         ),
         (
-            "RD granted by none of 10 pairs in a page, refused by 7",
-            vec![short_list::refused()],
+            "RD granted by none of 10 pairs in a page, behind the home's",
+            vec![behind.refused()],
         ),
     ]
 }
