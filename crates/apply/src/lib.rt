@@ -97,7 +97,7 @@ fn carried_out(s: State, store: &mut [u64], d: usize, call: Call) -> Outcome
 }
 
 // A call by a domain, with check 3 left out: for a state that is known to be sound.
-fn unchecked(s: State, store: &mut [u64], d: u64, call: Call) -> Outcome
+pub fn unchecked(s: State, store: &mut [u64], d: u64, call: Call) -> Outcome
     ensures { λ r. ⌜ result r (now (store .exit)) ≡ unchecked (world s (now (store .entry))) d call ⌝ }
 {
     let caller = caller_of(store.len(), d);

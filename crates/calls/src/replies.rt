@@ -14,9 +14,28 @@ use state::estates::with_domain;
 use state::estates::with_estate;
 use state::estates::with_object;
 ghost use mathlib.Core.Path.{_≡_};
-ghost use Rattle.calls.specs.Answers.{noFields};
+ghost use Rattle.calls.specs.Answers.{refusalNumber, noFields};
 ghost use Rattle.calls.specs.Step.{answeredWith};
 ghost use Rattle.calls.specs.Parts.{unaltered, becoming, moved, stays, withAltered, withMoved};
+
+// The number of a refusal.
+pub fn refusal_number(why: Refusal) -> u64
+    ensures { λ r. ⌜ r ≡ refusalNumber why ⌝ }
+{
+    match why {
+        Refusal::StoreLength => return 2,
+        Refusal::Unsound => return 3,
+        Refusal::NoDomain => return 4,
+        Refusal::OutOfRange => return 5,
+        Refusal::Locked => return 6,
+        Refusal::NotGranted => return 7,
+        Refusal::NotEntry => return 8,
+        Refusal::NoRun => return 9,
+        Refusal::HasPassword => return 10,
+        Refusal::Full => return 11,
+        Refusal::Missing => return 12,
+    }
+}
 
 // No fields.
 pub fn no_fields() -> Fields

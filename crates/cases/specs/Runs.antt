@@ -7,7 +7,7 @@ use Rattle.bounded.specs.Every.{below}
 use Rattle.state.specs.Extent.{covers, liesIn, apart}
 use Rattle.state.specs.Lookup.{covering, based, objectCovering, objectBased, placeBased, freePlace, placeOf, ordinaryMode, modeOf, hasPassword}
 use Rattle.state.specs.Update.{insertSlot, removeSlot, lockSlot, mergeList, onlyList, saveDomain, restoreDomain, newObject, addPassword, dropPassword}
-use Rattle.soundness.specs.Sound.{passwordOk, absent, distinct, entryOk, registrationOk, objectBounds, objectOk, apartAt, apartFrom, estateOk, slotOk, frameBounds, frameOk, savedOk, domainOk, soundAt, sound}
+use Rattle.soundness.specs.Sound.{passwordOk, absent, distinct, blank, entryOk, registrationOk, withoutPasswords, objectBounds, objectOk, apartAt, apartFrom, estateOk, slotOk, frameBounds, frameOk, savedOk, domainOk, soundAt, sound}
 use Rattle.clists.specs.Clist.{live, listEnd, untilEnd, clist, listAt}
 use Rattle.judge.specs.Search.{pairMode, verdictOf, pairVerdict, listVerdict, slotVerdict, frameVerdict, searched}
 use Rattle.judge.specs.Judged.{judged}
@@ -31,7 +31,7 @@ by d c answer = record { domain = d; call = c; answer = answer }
 
 -- the answers of exchanges, each on what the last one left; unfolding it unfolds all that it computes with
 unfoldable pub answersBy : Judging → World → List Exchange → List (List ℕ)
-unfolding touched first below covers passwordOk absent distinct entryOk registrationOk liesIn objectBounds objectOk apart apartAt apartFrom estateOk slotOk frameBounds frameOk savedOk domainOk soundAt sound covering based objectCovering objectBased placeBased freePlace placeOf ordinaryMode modeOf hasPassword insertSlot removeSlot lockSlot mergeList onlyList saveDomain restoreDomain newObject addPassword dropPassword live listEnd untilEnd clist listAt pairMode verdictOf pairVerdict listVerdict slotVerdict frameVerdict searched inRange unlocked early view runFree isEntry late checks frameFields registration changes zeroed stepBy homeEstate homeDomain bootState homePair bootWords homesOk boot
+unfolding touched first below covers passwordOk absent distinct blank entryOk registrationOk liesIn withoutPasswords objectBounds objectOk apart apartAt apartFrom estateOk slotOk frameBounds frameOk savedOk domainOk soundAt sound covering based objectCovering objectBased placeBased freePlace placeOf ordinaryMode modeOf hasPassword insertSlot removeSlot lockSlot mergeList onlyList saveDomain restoreDomain newObject addPassword dropPassword live listEnd untilEnd clist listAt pairMode verdictOf pairVerdict listVerdict slotVerdict frameVerdict searched inRange unlocked early view runFree isEntry late checks frameFields registration changes zeroed stepBy homeEstate homeDomain bootState homePair bootWords homesOk boot
 answersBy judging w [] = []
 answersBy judging w (e ∷ es) =
     let r = stepBy judging w (e .domain) (e .call) in answerOf r ∷ answersBy judging (worldOf r) es

@@ -1,7 +1,8 @@
--- Soundness: document 01, "Ground and bounds", items 1 to 5. What stands in a free or unused place is not looked at; the
--- lengths of the arrays are part of the definition, and hold of every value that code can hand over.
+-- Soundness: document 01, "Ground and bounds", items 1 to 5. For document 02, T-02, every unused place holds zeros, so that one
+-- state is one value; Laws/Unused.antt says so place by place. The lengths of the arrays are part of the definition, and hold
+-- of every value that code can hand over.
 use Prim.Native.Nat.{ℕ, _/_}
-use mathlib.Core.Bool.{Bool, true, false, not, _&&_, _||_}
+use mathlib.Core.Bool.{Bool, true, false, not, cond, _&&_, _||_}
 use mathlib.Core.List.{List, [], _∷_}
 use lib.Dec.{leb, ltb, eqb}
 use lib.ListN.{length}
@@ -10,15 +11,16 @@ use Rattle.bounded.specs.Fill.{tabulate}
 use Rattle.rights.specs.Modes.{legal}
 use Rattle.state.specs.Places.{slotAt, savedAt, passwordAt, entryAt, objectAt, estateAt, domainAt}
 use Rattle.state.specs.Extent.{free, covers, liesIn, apart}
+use Rattle.state.specs.declared.Capability.{Capability}
 use Rattle.state.specs.declared.Object.{Object}
 use Rattle.state.specs.declared.Estate.{Estate}
 use Rattle.state.specs.declared.Frame.{Frame}
 use Rattle.state.specs.declared.Domain.{Domain}
 use Rattle.state.specs.declared.State.{State}
 
--- item 4: an ordinary password has a legal mode; a place with the word 0 is free
+-- item 4: a place with the word 0 is free, and its mode is 0; an ordinary password has a legal mode
 unfoldable pub passwordOk : Object → ℕ → Bool
-passwordOk o k = eqb (passwordAt o k .word) 0 || legal (passwordAt o k .mode)
+passwordOk o k = cond (eqb (passwordAt o k .word) 0) (eqb (passwordAt o k .mode) 0) (legal (passwordAt o k .mode))
 
 -- the number is not in the list; no nonzero number stands twice in it
 unfoldable pub absent : ℕ → List ℕ → Bool
@@ -33,23 +35,36 @@ distinct (x ∷ xs) = (eqb x 0 || absent x xs) && distinct xs
 abbrev pub allPasswords : Object → List ℕ
 allPasswords o = o .registration .password ∷ tabulate 4 (λ k. passwordAt o k .word)
 
--- item 4: an entry in use is an address of the object
-unfoldable pub entryOk : Object → ℕ → Bool
-entryOk o k = leb (o .registration .count) k || covers o (entryAt o k / 64)
+-- a capability of two zeros
+unfoldable pub blank : Capability → Bool
+blank c = eqb (c .page) 0 && eqb (c .password) 0
 
--- item 4: a registration, where there is one, has a Clist's page below 128 and 1 to 4 entries, all in the object
+-- item 4: an entry past the count is 0; one in use is an address of the object
+unfoldable pub entryOk : Object → ℕ → Bool
+entryOk o k = cond (leb (o .registration .count) k) (eqb (entryAt o k) 0) (covers o (entryAt o k / 64))
+
+-- item 4: where there is none, its password is 0, and so are its Clist's page and password and its count, and thereby its
+-- entries; a registration has a Clist's page below 128 and 1 to 4 entries, all in the object
 unfoldable pub registrationOk : Object → Bool
 registrationOk o =
-    eqb (o .registration .password) 0
-    || (ltb (o .registration .list .page) 128 && ltb 0 (o .registration .count) && leb (o .registration .count) 4 && below 4 (entryOk o))
+    below 4 (entryOk o)
+    && cond (eqb (o .registration .password) 0) (blank (o .registration .list) && eqb (o .registration .count) 0)
+    (ltb (o .registration .list .page) 128 && ltb 0 (o .registration .count) && leb (o .registration .count) 4)
 
--- items 2 to 4: a standing object lies in its estate, and its passwords, the registration's too, are all different
+-- no ordinary password and no registration
+unfoldable pub withoutPasswords : Object → Bool
+withoutPasswords o = eqb (o .registration .password) 0 && below 4 (λ k. eqb (passwordAt o k .word) 0)
+
+-- items 2 to 4: the passwords of an object, the registration's too, are all different; a free object has the base 0 and no
+-- passwords, and thereby is all zero; a standing one lies in its estate
 unfoldable pub objectBounds : Object → ℕ → Bool
-objectBounds o d = liesIn o d && below 4 (passwordOk o) && distinct (allPasswords o) && registrationOk o
+objectBounds o d =
+    below 4 (passwordOk o) && distinct (allPasswords o) && registrationOk o
+    && cond (free o) (eqb (o .base) 0 && withoutPasswords o) (liesIn o d)
 
--- a place for an object: free, or with an object that keeps its bounds
+-- a place for an object
 unfoldable pub objectOk : Object → ℕ → Bool
-objectOk o d = eqb (length (o .passwords)) 4 && eqb (length (o .registration .entries)) 4 && (free o || objectBounds o d)
+objectOk o d = eqb (length (o .passwords)) 4 && eqb (length (o .registration .entries)) 4 && objectBounds o d
 
 -- the object at place i is apart from that at place j, where j comes before i
 unfoldable pub apartAt : Estate → ℕ → ℕ → Bool
@@ -63,19 +78,19 @@ apartFrom e i = below 8 (apartAt e i)
 unfoldable pub estateOk : Estate → ℕ → Bool
 estateOk e d = eqb (length (e .objects)) 8 && below 8 (λ k. objectOk (objectAt e k) d) && below 8 (apartFrom e)
 
--- item 5: a slot in use names a page below 128
+-- item 5: a slot past the count is zero; one in use names a page below 128
 unfoldable pub slotOk : Frame → ℕ → Bool
-slotOk f k = leb (f .count) k || ltb (slotAt f k .page) 128
+slotOk f k = cond (leb (f .count) k) (blank (slotAt f k)) (ltb (slotAt f k .page) 128)
 
 -- item 5: at most 8 slots, and no more locked than there are
 unfoldable pub frameBounds : Frame → Bool
 frameBounds f = leb (f .count) 8 && leb (f .locked) (f .count) && below 8 (slotOk f)
 
--- a frame that is unused, or keeps its bounds
+-- a frame; an unused one has no slots and is not locked as a whole, and thereby is all zero
 unfoldable pub frameOk : Bool → Frame → Bool
-frameOk unused f = eqb (length (f .slots)) 8 && (unused || frameBounds f)
+frameOk unused f = eqb (length (f .slots)) 8 && frameBounds f && cond unused (eqb (f .count) 0 && not (f .whole)) true
 
--- item 5: a saved domain in use keeps the bounds of a frame
+-- item 5: a saved domain past the depth is unused; one in use keeps the bounds of a frame
 unfoldable pub savedOk : Domain → ℕ → Bool
 savedOk m k = frameOk (leb (m .depth) k) (savedAt m k)
 

@@ -5,7 +5,7 @@ use mathlib.Core.List.{List, _∷_}
 use lib.Dec.{leb, ltb, eqb}
 use lib.ListN.{set, replicate}
 use Rattle.bounded.specs.Fill.{tabulate}
-use Rattle.state.specs.Places.{noCapability, noPassword, freeRegistration, slotAt, savedAt}
+use Rattle.state.specs.Places.{noCapability, noPassword, freeRegistration, emptyFrame, slotAt, savedAt}
 use Rattle.state.specs.Lookup.{placeOf, freePasswordPlace}
 use Rattle.state.specs.declared.Capability.{Capability}
 use Rattle.state.specs.declared.Password.{Password}
@@ -61,10 +61,12 @@ withActive m f = record { active = f; saved = m .saved; depth = m .depth }
 unfoldable pub saveDomain : Domain → Frame → Domain
 saveDomain m f = cond (ltb (m .depth) 4) (record { active = f; saved = set (m .saved) (m .depth) (m .active); depth = m .depth + 1 }) m
 
--- RT: the frame saved last is the active one again, where there is one
+-- RT: the frame saved last is the active one again, where there is one, and its place is cleared
 unfoldable pub restoreDomain : Domain → Domain
 restoreDomain m =
-    cond (ltb 0 (m .depth) && leb (m .depth) 4) (record { active = savedAt m (m .depth - 1); saved = m .saved; depth = m .depth - 1 }) m
+    cond (ltb 0 (m .depth) && leb (m .depth) 4)
+    (record { active = savedAt m (m .depth - 1); saved = set (m .saved) (m .depth - 1) emptyFrame; depth = m .depth - 1 })
+    m
 
 -- a new object, with one password in the owner's mode, 15
 unfoldable pub newObject : ℕ → ℕ → ℕ → Object

@@ -1,6 +1,7 @@
 // Saving and restoring a protection domain.
 use crate::Domain;
 use crate::Frame;
+use crate::frames::empty_frame;
 ghost use mathlib.Core.Path.{_≡_};
 ghost use Rattle.state.specs.Update.{saveDomain, restoreDomain};
 
@@ -20,7 +21,7 @@ pub fn save_domain(m: Domain, f: Frame) -> Domain
     r
 }
 
-// The frame saved last comes back. With none saved nothing changes.
+// The frame saved last comes back, and its place is cleared. With none saved nothing changes.
 pub fn restore_domain(m: Domain) -> Domain
     ensures { λ r. ⌜ r ≡ restoreDomain m ⌝ }
 {
@@ -31,8 +32,11 @@ pub fn restore_domain(m: Domain) -> Domain
     if 4 < n {
         return m;
     }
-    let f = m.saved[(n - 1) as usize];
+    let last = (n - 1) as usize;
+    let f = m.saved[last];
+    let none = empty_frame();
     let mut r = m;
+    r.saved[last] = none;
     r.active = f;
     r.depth = n - 1;
     r

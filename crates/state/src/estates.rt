@@ -1,12 +1,11 @@
 // The objects of an estate, and the parts of a state put back.
-use crate::Capability;
 use crate::Domain;
 use crate::Estate;
-use crate::Frame;
 use crate::Object;
 use crate::State;
 use crate::Table;
 use crate::extents::covers;
+use crate::frames::empty_frame;
 use crate::objects::free_object;
 use crate::objects::has_base;
 ghost use mathlib.Core.Path.{_≡_};
@@ -115,15 +114,7 @@ pub fn empty_state() -> State
     let e = Estate {
         objects: [free_object(); 8],
     };
-    let f = Frame {
-        slots: [Capability {
-            page: 0,
-            password: 0,
-        }; 8],
-        count: 0,
-        locked: 0,
-        whole: false,
-    };
+    let f = empty_frame();
     let m = Domain {
         active: f,
         saved: [f; 4],

@@ -3,6 +3,7 @@ use crate::Capability;
 use crate::Frame;
 ghost use mathlib.Core.Path.{_≡_};
 ghost use Prim.Native.Nat.{_<_};
+ghost use Rattle.state.specs.Places.{emptyFrame};
 ghost use Rattle.state.specs.Update.{slotIn, insertSlot, slotOut, removeSlot, lockSlot, mergeList, onlyList};
 
 // What stands at k once c is put in at `at`.
@@ -129,6 +130,21 @@ pub fn only_list(c: Capability) -> Frame
     Frame {
         slots: [c, none, none, none, none, none, none, none],
         count: 1,
+        locked: 0,
+        whole: false,
+    }
+}
+
+// No slot and no lock: what an unused place for a frame holds.
+pub fn empty_frame() -> Frame
+    ensures { λ r. ⌜ r ≡ emptyFrame ⌝ }
+{
+    Frame {
+        slots: [Capability {
+            page: 0,
+            password: 0,
+        }; 8],
+        count: 0,
         locked: 0,
         whole: false,
     }

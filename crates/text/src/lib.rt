@@ -1,12 +1,12 @@
 // Answers as text.
 use calls::Answer;
 use calls::Fields;
-use calls::Refusal;
+use calls::replies::refusal_number;
 ghost use mathlib.Core.Path.{_≡_};
 ghost use mathlib.Core.List.{[], _∷_};
 ghost use Prim.Native.Nat.{_+_, _*_, _<_, _≤_};
 ghost use lib.ListN.{length};
-ghost use Rattle.calls.specs.Answers.{refusalNumber, numberOf, valueOf, valuesFrom};
+ghost use Rattle.calls.specs.Answers.{numberOf, valueOf, valuesFrom};
 ghost use Rattle.text.specs.Decimal.{decimal, lastDigits, Places};
 ghost use Rattle.text.specs.Puts.{Put};
 ghost use Rattle.text.specs.Answer.{fieldsText, answerLine, shownCount, printed, printedEnd};
@@ -112,24 +112,6 @@ pub fn put_line(out: &mut [u8], at: usize, line: u64, answer: u64, values: &[u64
         return at;
     }
     put_all(out, at, line, answer, values)
-}
-
-pub fn refusal_number(why: Refusal) -> u64
-    ensures { λ r. ⌜ r ≡ refusalNumber why ⌝ }
-{
-    match why {
-        Refusal::StoreLength => return 2,
-        Refusal::Unsound => return 3,
-        Refusal::NoDomain => return 4,
-        Refusal::OutOfRange => return 5,
-        Refusal::Locked => return 6,
-        Refusal::NotGranted => return 7,
-        Refusal::NotEntry => return 8,
-        Refusal::NoRun => return 9,
-        Refusal::HasPassword => return 10,
-        Refusal::Full => return 11,
-        Refusal::Missing => return 12,
-    }
 }
 
 pub fn answer_number(a: Answer) -> u64

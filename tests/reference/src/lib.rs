@@ -1,14 +1,17 @@
 //! A second implementation of the call program, by documents 01 and 02.
 
+pub mod callgrind;
 pub mod cases;
 pub mod compare;
 pub mod coverage;
 pub mod damage;
 pub mod explain;
 pub mod generate;
+pub mod image;
 pub mod inputs;
 pub mod lines;
 pub mod monitor;
 pub mod random;
 pub mod short_list;
+pub mod table;
 pub mod workload;

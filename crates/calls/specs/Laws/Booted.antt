@@ -1,24 +1,23 @@
 -- What BT leaves: a sound state, and a store of 8,192 words.
 use Prim.Native.Nat.{ℕ, _*_, _<_}
 use mathlib.Core.Path.{_≡_, refl, ap}
-use mathlib.Core.Bool.{true}
+use mathlib.Core.Bool.{true, not}
 use mathlib.Core.List.{List, [], _∷_}
 use mathlib.Core.Logic.{_↔_, Iff·trans}
 use mathlib.Core.Option.{Option, none, some}
 use native.Mathlib.Omega.{arith}
-use lib.Dec.{ltb}
+use lib.Dec.{ltb, eqb}
 use lib.ListN.{length, length-set, length-replicate, getD-replicate}
-use Rattle.bounded.specs.Every.{below}
+use Rattle.bounded.specs.Every.{below-at}
 use Rattle.bounded.specs.Fill.{tabulate-at}
 use Rattle.state.specs.Places.{noObject, noEstate, noDomain, freeObject, emptyEstate, emptyDomain, emptyState}
-use Rattle.state.specs.Extent.{apart}
 use Rattle.state.specs.Update.{newObject}
-use Rattle.state.specs.Laws.Extent.{apart-free, apart-sym}
-use Rattle.soundness.specs.Sound.{apartAt, apartFrom, objectOk, estateOk, slotOk, frameBounds, frameOk, savedOk, domainOk, sound}
+use Rattle.state.specs.Laws.Extent.{not-zero, apart-free, apart-sym}
+use Rattle.soundness.specs.Sound.{estateOk, domainOk, sound}
 use Rattle.soundness.specs.Laws.Frames.{only-sound}
-use Rattle.soundness.specs.Laws.Domains.{active-sound}
+use Rattle.soundness.specs.Laws.Domains.{active-sound, empty-domain}
 use Rattle.soundness.specs.Laws.Objects.{new-sound}
-use Rattle.soundness.specs.Laws.Estates.{object-apart-sound, empty-sound}
+use Rattle.soundness.specs.Laws.Estates.{object-apart-sound, empty-estate, empty-sound}
 use Rattle.soundness.specs.Laws.StateParts.{parts-state}
 use Rattle.calls.specs.Answers.{numberOf}
 use Rattle.calls.specs.View.{Check, check, firstFailing}
@@ -26,7 +25,7 @@ use Rattle.calls.specs.Step.{refused, world, result, doneWith, storeChec
 use Rattle.calls.specs.Boot.{homeOf, homeEstate, homeDomain, bootState, homePair, bootWords, booted, homesOk, bootedBy, boot}
 use Rattle.calls.specs.Laws.Order.{ascending, AllHold, FailsFirst, none-fails, first-fails, Answering, answers-refused, answers-done}
 use Rattle.calls.specs.Laws.Passed.{Unchanged}
-use borrow.Author.Tests.{eq-eqb, lt-ltb}
+use borrow.Author.Tests.{eq-eqb, lt-ltb, not-true}
 use Rattle.calls.specs.Parts.{callerOf}
 use Rattle.calls.specs.Laws.Returns.{caller-known, caller-unknown}
 use Rattle.calls.specs.declared.Caller.the-variants.{Known, Refused as Caller·Refused}
@@ -34,33 +33,25 @@ use Rattle.calls.specs.declared.Refusal.{Refusal}
 use Rattle.calls.specs.declared.Refusal.the-variants.{NoDomain, OutOfRange}
 use Rattle.calls.specs.declared.Answer.the-variants.{Refused}
 
-empty-estate : (d : ℕ) → estateOk emptyEstate d ≡ true
-unfolding estateOk objectOk apartFrom apartAt apart below
-empty-estate d = refl
-
-empty-domain : domainOk emptyDomain ≡ true
-unfolding domainOk savedOk frameOk frameBounds slotOk below
-empty-domain = refl
-
-home-estate : (homes : List ℕ) (d : ℕ) → estateOk (homeEstate homes d) d ≡ true
+home-estate : (homes : List ℕ) (d : ℕ) → 0 < homeOf homes d → estateOk (homeEstate homes d) d ≡ true
 unfolding homeEstate
-home-estate homes d =
-    object-apart-sound emptyEstate d 0 (newObject (32 * d) 1 (homeOf homes d)) (new-sound (32 * d) 1 (homeOf homes d) d (omega arith) (omega arith))
+home-estate homes d p =
+    object-apart-sound emptyEstate d 0 (newObject (32 * d) 1 (homeOf homes d)) (new-sound (32 * d) 1 (homeOf homes d) d (omega arith) p (omega arith) (omega arith))
     (λ j l ne. rw (getD-replicate 8 j freeObject noObject l) (apart-sym _ freeObject (apart-free _ freeObject refl))) (empty-estate d)
 
 home-domain : (homes : List ℕ) (d : ℕ) → d < 4 → domainOk (homeDomain homes d) ≡ true
 unfolding homeDomain
 home-domain homes d l = active-sound emptyDomain _ (only-sound (record { page = 32 * d; password = homeOf homes d }) (omega arith)) empty-domain
 
--- the state of a boot is sound, whatever the home passwords
-pub boot-state-sound : (homes : List ℕ) → sound (bootState homes) ≡ true
-unfolding bootState
-boot-state-sound homes =
+-- the state of a boot is sound, whatever the home passwords are but 0
+pub boot-state-sound : (homes : List ℕ) → homesOk homes ≡ true → sound (bootState homes) ≡ true
+unfolding bootState homesOk
+boot-state-sound homes h =
     parts-state _
     (record {
       long-estates = refl;
       long-domains = refl;
-      estate = λ d l. rw (tabulate-at 4 (homeEstate homes) d noEstate l) (home-estate homes d);
+      estate = λ d l. rw (tabulate-at 4 (homeEstate homes) d noEstate l) (home-estate homes d (not-zero _ (not-true _ (below-at 4 (λ k. not (eqb (homeOf homes k) 0)) h d l))));
       domain = λ d l. rw (tabulate-at 4 (homeDomain homes) d noDomain l) (home-domain homes d l);
     })
 
@@ -126,8 +117,8 @@ module _ (words : List ℕ) (d : ℕ) (homes : List ℕ) where
   -- THE STATE THAT BT GIVES IS SOUND, done or refused
   pub boot-sound : sound (boot words d homes .outcome .state) ≡ true
   unfolding boot
-  boot-sound = go (firstFailing (bootChecks words d homes))
+  boot-sound = go (firstFailing (bootChecks words d homes)) refl
     where
-      go : (o : Option Refusal) → sound (booted homes words o .outcome .state) ≡ true
-      go none = boot-state-sound homes
-      go (some r) = empty-sound
+      go : (o : Option Refusal) → firstFailing (bootChecks words d homes) ≡ o → sound (booted homes words o .outcome .state) ≡ true
+      go none e = boot-state-sound homes (none-fails (bootChecks words d homes) .0 e .1 .1 .0)
+      go (some r) e = empty-sound

@@ -6,7 +6,7 @@ use mathlib.Core.List.{List, [], _∷_}
 use mathlib.Core.Option.{Option}
 use native.Mathlib.Omega.{arith}
 use lib.Dec.{leb, ltb, eqb}
-use borrow.Author.Tests.{leb-true, ltb-true, lt-ltb, ne-eqb, not-true}
+use borrow.Author.Tests.{leb-true, ltb-true, lt-ltb, le-ltb, ne-eqb, not-true}
 use Rattle.bounded.specs.Bools.{and-left, and-right, guarded, unless, cond-ind}
 use Rattle.bounded.specs.Every.{below-at}
 use Rattle.bounded.specs.Fill.{tabulate-at}
@@ -14,7 +14,7 @@ use Rattle.state.specs.Places.{objectAt, estateAt, domainAt}
 use Rattle.state.specs.Extent.{covers, apart, liesIn}
 use Rattle.state.specs.Lookup.{hasBase, covering, based, placeBased, objectBased, objectCovering, hasPassword}
 use Rattle.state.specs.Update.{newObject, withObject, withRegistration, mergeList, onlyList}
-use Rattle.state.specs.Laws.Extent.{SameRun, add-run, register-run, drop-run}
+use Rattle.state.specs.Laws.Extent.{not-zero, SameRun, add-run, register-run, drop-run}
 use Rattle.soundness.specs.Sound.{objectOk, estateOk, frameOk, domainOk, sound}
 use Rattle.soundness.specs.Laws.Frames.{insert-sound, remove-sound, lock-sound, merge-sound, only-sound}
 use Rattle.soundness.specs.Laws.Domains.{active-sound, save-sound, restore-sound}
@@ -70,6 +70,9 @@ module _ (w : World) (f : Frame) (b r : ℕ) (h : sound (w .state) ≡ true) (s 
   unfolding objectBased based
   owned-sound = rw (was-granted w f (Base b) r s .judgement) (stands-sound (hasBase b) _ (b / 32) (found .stands) (found .sound-estate))
 
+  owned-pages : 0 < objectOf (owned w f b r) .pages
+  owned-pages = rw (was-granted w f (Base b) r s .judgement) (was-granted w f (Base b) r s .pages)
+
   -- another object with its run, in its place
   pub owned-becomes : (o : Object) → SameRun o (objectOf (owned w f b r)) → objectOk o (b / 32) ≡ true
       → estateOk (withObject (estateFound (owned w f b r)) (placeBased (estateFound (owned w f b r)) b) o) (b / 32) ≡ true
@@ -77,15 +80,17 @@ module _ (w : World) (f : Frame) (b r : ℕ) (h : sound (w .state) ≡ true) (s 
   owned-becomes o = rw (was-granted w f (Base b) r s .judgement) (λ m p. found-run-sound (hasBase b) _ (b / 32) o (found .stands) m p (found .sound-estate))
 
 -- a new object that lies in the estate and meets no other
-pub new-fit : (e : Estate) (d place p n k : ℕ) → estateOk e d ≡ true → liesIn (newObject p n k) d && runFree e (newObject p n k) ≡ true
+pub new-fit : (e : Estate) (d place p n k : ℕ) → inRange (OnObject (Create p n k)) ≡ true → estateOk e d ≡ true → liesIn (newObject p n k) d && runFree e (newObject p n k) ≡ true
     → (estateOk (withObject e place (newObject p n k)) d ≡ true) × (p + n ≤ 32 * d + 32)
-unfolding liesIn runFree newObject
-new-fit e d place p n k h t =
+unfolding liesIn runFree newObject inRange
+new-fit e d place p n k range h t =
     let o = newObject p n k in
     let lies = and-left (liesIn o d) _ t in
     let to = leb-true _ _ (and-right (leb (32 * d) p) _ lies) in
     let clear = below-at 8 (λ j. apart (objectAt e j) o) (and-right (liesIn o d) _ t) in
-    (object-apart-sound e d place o (new-sound p n k d (leb-true _ _ (and-left _ _ lies)) to) (λ j l ne. clear j l) h, to)
+    let word = not-zero k (not-true _ (and-right (ltb p 128 && ltb 0 n && leb n 32) _ range)) in
+    let pages = ltb-true 0 n (and-right (ltb p 128) _ (and-left (ltb p 128 && ltb 0 n) _ (and-left _ _ range))) in
+    (object-apart-sound e d place o (new-sound p n k d pages word (leb-true _ _ (and-left _ _ lies)) to) (λ j l ne. clear j l) h, to)
 
 -- a registration as it is asked for, with its entries inside the object
 registered-sound : (o : Object) (k : ℕ) (l : Presented) (es : Entries) → l .page < 128 → 0 < es .count → es .count ≤ 4
@@ -99,20 +104,22 @@ registered-sound o k l es p some few inside =
       entry = λ i m.
           rw (tabulate-at 4 (λ j. cond (ltb j (es .count)) (entryOf es j) 0) i 0 (omega arith), lt-ltb i (es .count) m)
           (guarded (es .count) i _ (below-at 4 (λ j. leb (es .count) j || covers o (entryOf es j / 64)) inside i (omega arith)) m);
+      past = λ i m n. rw (tabulate-at 4 (λ j. cond (ltb j (es .count)) (entryOf es j) 0) i 0 m, le-ltb i (es .count) n);
     }
 
 registered-fit : (o : Object) (d b k : ℕ) (l : Presented) (es : Entries) → inRange (OnObject (Register b k l es)) ≡ true
-    → entriesAll (λ a. covers o (a / 64)) es ≡ true → not (hasPassword o k) ≡ true → objectOk o d ≡ true
+    → entriesAll (λ a. covers o (a / 64)) es ≡ true → not (hasPassword o k) ≡ true → 0 < o .pages → objectOk o d ≡ true
     → objectOk (withRegistration o (registration k l es)) d ≡ true
 unfolding inRange registration
-registered-fit o d b k l es range inside new h =
+registered-fit o d b k l es range inside new stands h =
     let first = and-left _ (entriesAll (λ a. ltb a 8192) es) range in
     let few = and-right (ltb b 128 && not (eqb k 0) && ltb (l .page) 128 && ltb 0 (es .count)) _ first in
     let third = and-left _ (leb (es .count) 4) first in
     let some = and-right (ltb b 128 && not (eqb k 0) && ltb (l .page) 128) _ third in
     let page = and-right (ltb b 128 && not (eqb k 0)) _ (and-left _ (ltb 0 (es .count)) third) in
-    register-sound o d _ refl (not-true _ new)
-    (λ p. registered-sound o k l es (ltb-true _ 128 page) (ltb-true 0 _ some) (leb-true _ 4 few) inside) h
+    let word = not-zero k (not-true _ (and-right (ltb b 128) _ (and-left _ (ltb (l .page) 128) (and-left _ (ltb 0 (es .count)) third)))) in
+    register-sound o d _ refl word (not-true _ new)
+    (registered-sound o k l es (ltb-true _ 128 page) (ltb-true 0 _ some) (leb-true _ 4 few) inside) stands h
 
 -- the list of a registration that P is granted on names a page
 entered-list : (w : World) (f : Frame) (a : ℕ) → sound (w .state) ≡ true → isSome (search judged w f (rights (Address a) 16)) ≡ true
@@ -137,26 +144,27 @@ done-fit w d (OnStore (Write a x)) h p = (tt, tt)
 done-fit w d (OnStore (Execute a)) h p = tt
 done-fit w d (OnStore (Lookup a r)) h p = tt
 done-fit w d (OnObject (Create a n k)) h p =
-    let r = new-fit (estateAt (w .state .table) d) d _ a n k (state-parts (w .state) h .estate d (p .domain)) (p .rest .0) in
+    let r = new-fit (estateAt (w .state .table) d) d _ a n k (p .range) (state-parts (w .state) h .estate d (p .domain)) (p .rest .0) in
     (r .0, (omega (arith, p .domain, r .1), tt))
 done-fit w d (OnObject (Delete b)) h p = (clear-sound _ (b / 32) _ (owned-estate w (domainAt (w .state) d .active) b 8 h (p .rest .0)), tt)
 done-fit w d (OnObject (AddPassword b k m)) h p =
     let f = domainAt (w .state) d .active in
     let o = objectOf (owned w f b 15) in
-    let legal = and-right (ltb b 128 && not (eqb k 0)) _ (p .range) in (
+    let legal = and-right (ltb b 128 && not (eqb k 0)) _ (p .range) in
+    let word = not-zero k (not-true _ (and-right (ltb b 128) _ (and-left _ _ (p .range)))) in (
       owned-becomes w f b 15 h (p .rest .0) _ (add-run o k m)
-          (add-sound o (b / 32) k m (not-true _ (p .rest .1 .0)) legal (owned-sound w f b 15 h (p .rest .0))),
+          (add-sound o (b / 32) k m word (not-true _ (p .rest .1 .0)) legal (owned-pages w f b 15 h (p .rest .0)) (owned-sound w f b 15 h (p .rest .0))),
       tt,
     )
 done-fit w d (OnObject (DropPassword b k)) h p =
     let f = domainAt (w .state) d .active in
     let o = objectOf (owned w f b 15) in
-    (owned-becomes w f b 15 h (p .rest .0) _ (drop-run o k) (drop-sound o (b / 32) k (owned-sound w f b 15 h (p .rest .0))), tt)
+    (owned-becomes w f b 15 h (p .rest .0) _ (drop-run o k) (drop-sound o (b / 32) k (owned-pages w f b 15 h (p .rest .0)) (owned-sound w f b 15 h (p .rest .0))), tt)
 done-fit w d (OnObject (Register b k l es)) h p =
     let f = domainAt (w .state) d .active in
     let o = objectOf (owned w f b 15) in (
       owned-becomes w f b 15 h (p .rest .0) _ (register-run o (registration k l es))
-          (registered-fit o (b / 32) b k l es (p .range) (p .rest .1 .1 .0) (p .rest .1 .1 .1 .0) (owned-sound w f b 15 h (p .rest .0))),
+          (registered-fit o (b / 32) b k l es (p .range) (p .rest .1 .1 .0) (p .rest .1 .1 .1 .0) (owned-pages w f b 15 h (p .rest .0)) (owned-sound w f b 15 h (p .rest .0))),
       tt,
     )
 done-fit w d (OnDomain (Insert i l)) h p =

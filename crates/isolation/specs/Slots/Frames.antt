@@ -6,11 +6,12 @@ use mathlib.Core.List.{_∷_}
 use native.Mathlib.Omega.{arith}
 use lib.Dec.{leb, ltb, eqb}
 use lib.ListN.{length, getD, replicate}
+use lib.Seq.{getD-set-other}
 use borrow.Author.Tests.{ltb-true, ltb-false, eqb-false}
 use Rattle.bounded.specs.Bools.{and-left, cond-ind}
 use Rattle.bounded.specs.Every.{set-at}
 use Rattle.bounded.specs.Fill.{tabulate-at}
-use Rattle.state.specs.Places.{noCapability, noFrame, slotAt}
+use Rattle.state.specs.Places.{noCapability, noFrame, emptyFrame, slotAt}
 use Rattle.state.specs.Update.{slotIn, slotOut, insertSlot, removeSlot, lockSlot, mergeList, onlyList, saveDomain, restoreDomain}
 use Rattle.state.specs.declared.Capability.{Capability}
 use Rattle.state.specs.declared.Frame.{Frame}
@@ -84,4 +85,7 @@ module _ (G : Group) where
   restore-in m h =
       cond-ind (DomainIn G) (ltb 0 (m .depth) && leb (m .depth) 4) _ m
       (λ r. let l = ltb-true 0 (m .depth) (and-left (ltb 0 (m .depth)) _ r) in
-      record { active = h .saved (m .depth - 1) (omega arith); saved = λ k n. h .saved k (omega arith) }) (λ r. h)
+      record {
+        active = h .saved (m .depth - 1) (omega arith);
+        saved = λ k n. rw (getD-set-other (m .saved) (m .depth - 1) k emptyFrame noFrame (λ e. omega arith)) (h .saved k (omega arith));
+      }) (λ r. h)

@@ -1,17 +1,17 @@
 -- The changes of a protection domain keep it sound, and another sound domain keeps the state sound.
 use Prim.Native.Nat.{ℕ, _-_}
-use mathlib.Core.Path.{_≡_}
+use mathlib.Core.Path.{_≡_, refl}
 use mathlib.Core.Bool.{true, false, _&&_}
 use native.Mathlib.Omega.{arith}
 use lib.Dec.{leb, ltb}
-use lib.ListN.{length, length-set}
+use lib.ListN.{length-set, getD-replicate}
 use borrow.Author.Tests.{ltb-true}
 use Rattle.bounded.specs.Bools.{and-left, cond-ind}
 use Rattle.bounded.specs.Every.{set-at}
-use Rattle.state.specs.Places.{noFrame, noDomain}
+use Rattle.state.specs.Places.{noFrame, noDomain, emptyFrame, emptyDomain}
 use Rattle.state.specs.Update.{withActive, saveDomain, restoreDomain, withDomain}
 use Rattle.soundness.specs.Sound.{frameOk, domainOk, sound}
-use Rattle.soundness.specs.Laws.DomainParts.{frame-parts, domain-parts, parts-domain}
+use Rattle.soundness.specs.Laws.DomainParts.{empty-frame, domain-parts, parts-domain}
 use Rattle.soundness.specs.Laws.StateParts.{state-parts, parts-state}
 use Rattle.state.specs.declared.Frame.{Frame}
 use Rattle.state.specs.declared.Domain.{Domain}
@@ -21,7 +21,7 @@ use Rattle.state.specs.declared.State.{State}
 pub active-sound : (m : Domain) (f : Frame) → frameOk false f ≡ true → domainOk m ≡ true → domainOk (withActive m f) ≡ true
 active-sound m f p h =
     let q = domain-parts m h in
-    parts-domain _ (record { long = q .long; active = p; deep = q .deep; slots = q .slots; saved = q .saved })
+    parts-domain _ (record { long = q .long; active = p; deep = q .deep; saved = q .saved; past = q .past })
 
 -- a domain saved, and another sound frame in its place
 pub save-sound : (m : Domain) (f : Frame) → frameOk false f ≡ true → domainOk m ≡ true → domainOk (saveDomain m f) ≡ true
@@ -35,16 +35,16 @@ save-sound m f p h =
       long = simp length-set (q .long);
       active = p;
       deep = omega arith;
-      slots = λ k l.
-          set-at (λ _ x. length (x .slots) ≡ 8) (m .saved) (m .depth) (m .active) noFrame k (omega arith)
-          (λ e. frame-parts (m .active) (q .active) .long) (λ ne. q .slots k l);
       saved = λ k l.
           set-at (λ _ x. frameOk false x ≡ true) (m .saved) (m .depth) (m .active) noFrame k (omega arith)
           (λ e. q .active) (λ ne. q .saved k (omega arith));
+      past = λ k l n.
+          set-at (λ _ x. x ≡ emptyFrame) (m .saved) (m .depth) (m .active) noFrame k (omega arith) (λ e. absurd (omega arith))
+          (λ ne. q .past k l (omega arith));
     }))
     (λ r. h)
 
--- the last saved domain comes back
+-- the last saved domain comes back, and leaves zeros
 pub restore-sound : (m : Domain) → domainOk m ≡ true → domainOk (restoreDomain m) ≡ true
 unfolding restoreDomain
 restore-sound m h =
@@ -53,13 +53,29 @@ restore-sound m h =
     (λ r. let some = ltb-true 0 (m .depth) (and-left _ _ r) in
     parts-domain _
     (record {
-      long = q .long;
+      long = simp length-set (q .long);
       active = q .saved (m .depth - 1) (omega arith);
       deep = omega (arith, q .deep);
-      slots = q .slots;
-      saved = λ k l. q .saved k (omega arith);
+      saved = λ k l.
+          set-at (λ _ x. frameOk false x ≡ true) (m .saved) (m .depth - 1) emptyFrame noFrame k (omega (arith, q .deep, q .long))
+          (λ e. empty-frame false) (λ ne. q .saved k (omega arith));
+      past = λ k l n.
+          set-at (λ _ x. x ≡ emptyFrame) (m .saved) (m .depth - 1) emptyFrame noFrame k (omega (arith, q .long)) (λ e. refl)
+          (λ ne. q .past k l (omega arith));
     }))
     (λ r. h)
+
+-- a domain with no slots and nothing saved
+pub empty-domain : domainOk emptyDomain ≡ true
+empty-domain =
+    parts-domain emptyDomain
+    (record {
+      long = refl;
+      active = empty-frame false;
+      deep = omega arith;
+      saved = λ k l. absurd (omega arith);
+      past = λ k l n. getD-replicate 4 k emptyFrame noFrame l;
+    })
 
 -- another sound domain
 pub with-domain-sound : (s : State) (d : ℕ) (m : Domain) → domainOk m ≡ true → sound s ≡ true → sound (withDomain s d m) ≡ true

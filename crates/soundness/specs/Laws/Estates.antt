@@ -3,17 +3,18 @@ use Prim.Native.Nat.{ℕ, _<_}
 use mathlib.Core.Path.{_≡_, refl}
 use mathlib.Core.Bool.{Bool, true}
 use native.Mathlib.Omega.{arith}
-use lib.ListN.{length-set}
-use Rattle.bounded.specs.Every.{below, set-at}
-use Rattle.state.specs.Places.{noObject, noEstate, freeObject, emptyState, objectAt}
+use lib.ListN.{length-set, getD-replicate}
+use Rattle.bounded.specs.Every.{set-at}
+use Rattle.state.specs.Places.{noObject, noEstate, noDomain, freeObject, emptyEstate, emptyDomain, emptyState, objectAt}
 use Rattle.state.specs.Extent.{apart}
 use Rattle.state.specs.Lookup.{objectWhere, placeWhere}
 use Rattle.state.specs.Update.{withObject, withEstate}
 use Rattle.state.specs.Laws.Extent.{apart-sym, SameRun, apart-run, apart-free}
 use Rattle.state.specs.Laws.Lookup.{Stands}
-use Rattle.soundness.specs.Sound.{objectOk, apartAt, apartFrom, estateOk, slotOk, frameBounds, frameOk, savedOk, domainOk, soundAt, sound}
+use Rattle.soundness.specs.Sound.{objectOk, estateOk, sound}
 use Rattle.soundness.specs.Laws.StateParts.{EstateSound, estate-parts, parts-estate, state-parts, parts-state, estate-apart}
-use Rattle.soundness.specs.Laws.Objects.{free-sound}
+use Rattle.soundness.specs.Laws.ObjectParts.{free-sound}
+use Rattle.soundness.specs.Laws.Domains.{empty-domain}
 use Rattle.state.specs.declared.Object.{Object}
 use Rattle.state.specs.declared.Estate.{Estate}
 use Rattle.state.specs.declared.State.{State}
@@ -69,7 +70,23 @@ with-estate-sound s d e p h =
       domain = q .domain;
     })
 
+-- an estate with no object
+pub empty-estate : (d : ℕ) → estateOk emptyEstate d ≡ true
+empty-estate d =
+    parts-estate emptyEstate d
+    (record {
+      long = refl;
+      object = λ k l. rw (getD-replicate 8 k freeObject noObject l) (free-sound d);
+      clear = λ i j l m. rw (getD-replicate 8 i freeObject noObject l) (apart-free _ freeObject refl);
+    })
+
 -- the empty state
 pub empty-sound : sound emptyState ≡ true
-unfolding sound soundAt estateOk objectOk apartFrom apartAt apart below domainOk savedOk frameOk frameBounds slotOk
-empty-sound = refl
+empty-sound =
+    parts-state emptyState
+    (record {
+      long-estates = refl;
+      long-domains = refl;
+      estate = λ d l. rw (getD-replicate 4 d emptyEstate noEstate l) (empty-estate d);
+      domain = λ d l. rw (getD-replicate 4 d emptyDomain noDomain l) empty-domain;
+    })

@@ -1,10 +1,11 @@
 -- The changes of a frame keep it sound.
-use Prim.Native.Nat.{ℕ, _+_, _-_, _<_, _≤_, min}
-use mathlib.Core.Path.{_≡_, refl}
+use Prim.Native.Nat.{ℕ, suc, _+_, _-_, _<_, _≤_, min}
+use mathlib.Core.Path.{_≡_, refl, _∙_}
 use mathlib.Core.Bool.{Bool, true, false}
 use native.Mathlib.Omega.{arith}
 use lib.Dec.{ltb, eqb}
-use borrow.Author.Tests.{ltb-true, ltb-false, lt-ltb, eqb-false}
+use lib.ListN.{getD-replicate}
+use borrow.Author.Tests.{ltb-true, ltb-false, lt-ltb, le-ltb, eqb-false, ne-eqb}
 use Rattle.bounded.specs.Bools.{cond-ind}
 use Rattle.bounded.specs.Fill.{tabulate, tabulate-at}
 use Rattle.state.specs.Places.{noCapability, slotAt}
@@ -16,17 +17,25 @@ use Rattle.state.specs.declared.Frame.{Frame}
 
 -- a frame given slot by slot
 tabulated-sound : (g : ℕ → Capability) (n l : ℕ) (w : Bool) → n ≤ 8 → l ≤ n → ((k : ℕ) → k < n → g k .page < 128)
+    → ((k : ℕ) → k < 8 → n ≤ k → g k ≡ noCapability)
     → frameOk false (record { slots = tabulate 8 g; count = n; locked = l; whole = w }) ≡ true
-tabulated-sound g n l w a b h =
+tabulated-sound g n l w a b h z =
     parts-frame _
-    (record { long = refl; fits = a; locks = b; slot = λ k m. rw (tabulate-at 8 g k noCapability (omega arith)) (h k m) })
+    (record {
+      long = refl;
+      fits = a;
+      locks = b;
+      slot = λ k m. rw (tabulate-at 8 g k noCapability (omega arith)) (h k m);
+      past = λ k m e. tabulate-at 8 g k noCapability m ∙ z k m e;
+    })
 
 -- a slot more, at the end or before it: a place further on would let in what stands past the end
 pub insert-sound : (f : Frame) (at : ℕ) (c : Capability) → at ≤ f .count → c .page < 128 → frameOk false f ≡ true → frameOk false (insertSlot f at c) ≡ true
 unfolding insertSlot
 insert-sound f at c l p h =
     cond-ind (λ x. frameOk false x ≡ true) (ltb (f .count) 8) _ f
-    (λ r. tabulated-sound (slotIn f at c) _ _ _ (omega (arith, ltb-true (f .count) 8 r)) (omega (arith, q .locks)) in-k) (λ r. h)
+    (λ r. tabulated-sound (slotIn f at c) _ _ _ (omega (arith, ltb-true (f .count) 8 r)) (omega (arith, q .locks)) in-k in-past)
+    (λ r. h)
   where
     q : FrameSound f
     q = frame-parts f h
@@ -37,12 +46,17 @@ insert-sound f at c l p h =
         (λ e. cond-ind (λ x. x .page < 128) (eqb k at) c (slotAt f (k - 1)) (λ g. p)
         (λ g. q .slot (k - 1) (omega (arith, ltb-false k at e, eqb-false k at g))))
 
+    in-past : (k : ℕ) → k < 8 → f .count + 1 ≤ k → slotIn f at c k ≡ noCapability
+    in-past k m n = rw (le-ltb k at (omega arith), ne-eqb k at (λ e. omega arith)) (q .past (k - 1) (omega arith) (omega arith))
+
 -- a slot less, none of the locked ones
 pub remove-sound : (f : Frame) (at : ℕ) → f .locked ≤ at → frameOk false f ≡ true → frameOk false (removeSlot f at) ≡ true
 unfolding removeSlot
 remove-sound f at l h =
     cond-ind (λ x. frameOk false x ≡ true) (ltb at (f .count)) _ f
-    (λ r. tabulated-sound (slotOut f at) _ _ _ (omega (arith, q .fits)) (omega (arith, ltb-true at (f .count) r)) out-k) (λ r. h)
+    (λ r. tabulated-sound (slotOut f at) _ _ _ (omega (arith, q .fits)) (omega (arith, ltb-true at (f .count) r)) out-k
+    (out-past (ltb-true at (f .count) r)))
+    (λ r. h)
   where
     q : FrameSound f
     q = frame-parts f h
@@ -52,13 +66,20 @@ remove-sound f at l h =
         cond-ind (λ x. x .page < 128) (ltb k at) (slotAt f k) _ (λ e. q .slot k (omega arith))
         (λ e. rw (lt-ltb k 7 (omega (arith, q .fits))) (q .slot (k + 1) (omega arith)))
 
+    out-past : at < f .count → (k : ℕ) → k < 8 → f .count - 1 ≤ k → slotOut f at k ≡ noCapability
+    out-past s k m n =
+        rw (le-ltb k at (omega arith))
+        (cond-ind (λ x. x ≡ noCapability) (ltb k 7) (slotAt f (k + 1)) noCapability
+        (λ e. q .past (k + 1) (omega (arith, ltb-true k 7 e)) (omega arith)) (λ e. refl))
+
 -- a lock on a slot that stands, or on the whole list
 pub lock-sound : (f : Frame) (slot : ℕ) → ((slot ≡ 255 → ⊥) → slot < f .count) → frameOk false f ≡ true → frameOk false (lockSlot f slot) ≡ true
 unfolding lockSlot
 lock-sound f slot p h =
     cond-ind (λ x. frameOk false x ≡ true) (eqb slot 255) _ _
-    (λ e. parts-frame _ (record { long = q .long; fits = q .fits; locks = q .locks; slot = q .slot }))
-    (λ e. parts-frame _ (record { long = q .long; fits = q .fits; locks = omega (arith, q .locks, p (eqb-false slot 255 e)); slot = q .slot }))
+    (λ e. parts-frame _ (record { long = q .long; fits = q .fits; locks = q .locks; slot = q .slot; past = q .past }))
+    (λ e. parts-frame _
+    (record { long = q .long; fits = q .fits; locks = omega (arith, q .locks, p (eqb-false slot 255 e)); slot = q .slot; past = q .past }))
   where
     q : FrameSound f
     q = frame-parts f h
@@ -73,7 +94,11 @@ merge-sound f c p h =
 -- a list alone
 pub only-sound : (c : Capability) → c .page < 128 → frameOk false (onlyList c) ≡ true
 unfolding onlyList
-only-sound c p = parts-frame _ (record { long = refl; fits = omega arith; locks = omega arith; slot = slot })
+only-sound c p = parts-frame _ (record { long = refl; fits = omega arith; locks = omega arith; slot = slot; past = past })
   where
     slot : (k : ℕ) → k < 1 → slotAt (onlyList c) k .page < 128
     slot k m = let e : k ≡ 0 = omega arith in rw e p
+
+    past : (k : ℕ) → k < 8 → 1 ≤ k → slotAt (onlyList c) k ≡ noCapability
+    past ℕ.zero l m = absurd (omega arith)
+    past (suc k) l m = getD-replicate 7 k noCapability noCapability (omega arith)

@@ -56,7 +56,7 @@ created-anywhere w d p n k x place h within vacant =
     let some = create-pages p n k (s .range) in
     record {
       well =
-          with-estate-sound (w .state) d _ (new-fit (estateAt t d) d place p n k (state-parts (w .state) ok .estate d (s .domain)) (s .rest .0) .0) ok;
+          with-estate-sound (w .state) d _ (new-fit (estateAt t d) d place p n k (s .range) (state-parts (w .state) ok .estate d (s .domain)) (s .rest .0) .0) ok;
       same =
           rw e
           (same-tables _ _
@@ -84,7 +84,7 @@ added-anywhere w d b k m x place h within vacant =
     record {
       well =
           with-estate-sound (w .state) (b / 32) _
-          (becomes _ (record { base = refl; pages = refl }) (put-sound o (b / 32) k m place new (add-legal b k m (s .range)) fine)) ok;
+          (becomes _ (record { base = refl; pages = refl }) (put-sound o (b / 32) k m place (add-word b k m (s .range)) new (add-legal b k m (s .range)) (g .pages) fine)) ok;
       same =
           rw (e, g .judgement)
           (same-tables _ _

@@ -6,11 +6,11 @@ mod loads;
 mod report;
 mod times;
 
-use instructions::Count;
 use loads::{repeated, Kinds, Load};
+use refmonitor::callgrind::{self, Count};
 use refmonitor::generate::Line;
+use refmonitor::table::thousands;
 use refmonitor::workload;
-use report::thousands;
 use std::io;
 use std::path::PathBuf;
 use std::process::ExitCode;
@@ -58,11 +58,11 @@ fn count_sound(pair: &Pair) -> io::Result<()> {
         return Ok(());
     }
     let out = pair.folder.join("counted-sound");
-    let (count, wrote) = instructions::count(&program, "/dev/null".as_ref(), &out)?;
+    let (count, wrote) = callgrind::count::<&str>(&program, &[], "/dev/null".as_ref(), &out)?;
     println!(
         "sound: {} instructions a call, {:.1}% of them copying (sound_cost wrote {})\n",
         thousands(count.started() as f64 / SOUND_CALLS),
-        100.0 * count.sum(instructions::copies) as f64 / count.started() as f64,
+        100.0 * count.sum(callgrind::copies) as f64 / count.started() as f64,
         String::from_utf8_lossy(&wrote).trim_end()
     );
     Ok(())
@@ -124,7 +124,7 @@ fn run(args: &[String]) -> io::Result<()> {
         println!("{}", load.mix());
     }
     println!();
-    let counting = instructions::installed();
+    let counting = callgrind::installed();
     if counting {
         count_loads(&pair, &loads)?;
         count_sound(&pair)?;

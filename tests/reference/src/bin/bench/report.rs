@@ -1,7 +1,8 @@
 //! The tables, in the form in which docs/PERFORMANCE.md has them.
 
-use crate::instructions::{copies, Count};
 use crate::loads::Load;
+use refmonitor::callgrind::{copies, Count};
+use refmonitor::table::{table, texts, thousands};
 use std::time::Duration;
 
 /// Parts of the program: their names, and how their symbols begin.
@@ -33,42 +34,6 @@ fn part(symbol: &str) -> usize {
         .iter()
         .position(|(_, starts)| starts.iter().any(|start| symbol.starts_with(start)))
         .expect("the last takes all")
-}
-
-/// Prints a table, its columns as wide as they must be, numbers to the right.
-fn table(rows: &[Vec<String>]) {
-    let width = |i: usize| rows.iter().map(|row| row[i].chars().count()).max();
-    for (at, row) in rows.iter().enumerate() {
-        let cells = row.iter().enumerate().map(|(i, cell)| {
-            let wide = width(i).unwrap_or(0);
-            match cell.starts_with(|c: char| c.is_ascii_digit()) {
-                true => format!("{cell:>wide$}"),
-                false => format!("{cell:wide$}"),
-            }
-        });
-        println!("| {} |", cells.collect::<Vec<_>>().join(" | "));
-        if at == 0 {
-            println!("|{}", "---|".repeat(row.len()));
-        }
-    }
-    println!();
-}
-
-fn texts(cells: &[&str]) -> Vec<String> {
-    cells.iter().map(|cell| cell.to_string()).collect()
-}
-
-/// A number with commas between the thousands.
-pub fn thousands(n: f64) -> String {
-    let digits = format!("{n:.0}");
-    let mut text = String::new();
-    for (i, c) in digits.chars().enumerate() {
-        if i > 0 && (digits.len() - i) % 3 == 0 {
-            text.push(',');
-        }
-        text.push(c);
-    }
-    text
 }
 
 fn share(part: u64, whole: u64) -> String {

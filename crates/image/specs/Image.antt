@@ -1,0 +1,93 @@
+-- The image of a state: its length, how it is read, and the laws of reading and writing.
+use Prim.Native.Nat.{ℕ, _≤_}
+use mathlib.Core.Path.{_≡_, refl, ap, sym, _∙_}
+use mathlib.Core.Bool.{Bool, true, false, cond, _&&_, true≢false}
+use mathlib.Core.List.{List, [], _++_, append-nil}
+use native.Mathlib.Omega.{arith}
+use lib.Dec.{eqb}
+use lib.ListN.{length}
+use lib.Seq.{take-all}
+use borrow.Author.Tests.{eqb-true, eq-eqb, ne-eqb}
+use Rattle.bounded.specs.Bools.{and-left, and-right}
+use Rattle.codec.specs.Codec.{Bytes, Codec, same-image}
+use Rattle.codec.specs.Laid.{lay, lay-all}
+use Rattle.codec.specs.Number.{number, byte}
+use Rattle.state.specs.Places.{emptyState}
+use Rattle.soundness.specs.Sound.{sound}
+use Rattle.state.specs.declared.State.{State}
+use Rattle.image.specs.declared.Reading.{Reading}
+use Rattle.image.specs.Sizes.{stateSize}
+use Rattle.image.specs.Layout.{capability, password, entries, registration, passwords, object, objects, estate, estates, table, state}
+
+-- an image that has the length, whose yes-or-no bytes are 1 or 0 and whose state is sound is read as that state; any other is refused
+unfoldable pub reading : List ℕ → Reading
+reading image =
+    cond (eqb (length image) stateSize)
+    (record { readable = state .ok image && sound (state .get image); state = state .get image })
+    (record { readable = false; state = emptyState })
+
+-- an image of the length is overwritten by the state's bytes; any other stays
+unfoldable pub written : List ℕ → State → List ℕ
+written image s = cond (eqb (length image) stateSize) (state .put s) image
+
+-- no yes or no stands in the object table
+pub table-ok : (bs : List ℕ) → table .ok bs ≡ true
+unfolding number byte capability password entries registration passwords object objects estate estates table
+table-ok bs = refl
+
+-- "Writing a sound state and reading the image gives that state": `fits` says that the numbers fit their types and the arrays are full
+pub reads-back : (s : State) → state .fits s → reading (state .put s) ≡ record { readable = sound s; state = s }
+unfolding reading
+reads-back s f =
+    let g : state .get (state .put s) ≡ s = rw (append-nil (state .put s)) at (state .get-put s [] f) in
+    let o : state .ok (state .put s) ≡ true = rw (append-nil (state .put s)) at (state .ok-put s []) in
+    rw (state .put-length s, o, g)
+
+taken : (b : Bool) (r : Reading) → cond b r (record { readable = false; state = emptyState }) .readable ≡ true → b ≡ true
+taken true r h = refl
+taken false r h = h
+
+module _ (a : List ℕ) (ra : reading a .readable ≡ true) where
+  -- what is readable has the length and its bytes are in order
+  pub readable-length : length a ≡ stateSize
+  unfolding reading
+  readable-length = eqb-true (length a) stateSize (taken (eqb (length a) stateSize) _ ra)
+
+  pub readable-is : reading a ≡ record { readable = state .ok a && sound (state .get a); state = state .get a }
+  unfolding reading
+  readable-is = rw (eq-eqb (length a) stateSize readable-length)
+
+  pub readable-ok : state .ok a ≡ true
+  readable-ok = and-left (state .ok a) (sound (state .get a)) (rw readable-is at ra)
+
+  -- "An image reads only as a sound state"
+  pub readable-sound : sound (reading a .state) ≡ true
+  readable-sound = rw readable-is (and-right (state .ok a) (sound (state .get a)) (rw readable-is at ra))
+
+-- "no two images give the same state"
+pub one-image : (a b : List ℕ) (ha : Bytes a) (hb : Bytes b) (ra : reading a .readable ≡ true) (rb : reading b .readable ≡ true)
+    → reading a .state ≡ reading b .state → a ≡ b
+one-image a b ha hb ra rb e =
+    same-image state a b ha hb (readable-length a ra) (readable-length b rb) (readable-ok a ra) (readable-ok b rb)
+    (sym (ap (λ r. r .state) (readable-is a ra)) ∙ e ∙ ap (λ r. r .state) (readable-is b rb))
+
+-- an image that was read is written as it was
+pub writes-back : (a : List ℕ) → Bytes a → reading a .readable ≡ true → state .put (reading a .state) ≡ a
+writes-back a ha ra =
+    let l = readable-length a ra in
+    rw (readable-is a ra) (state .put-get a ha (omega arith) (readable-ok a ra) ∙ take-all stateSize a (omega arith))
+
+-- what the code of writing leaves
+module _ (s : State) (old : List ℕ) where
+  abbrev pub Wrote : List ℕ → Type 0
+  Wrote new = (new ≡ written old s) × (length old ≡ stateSize → reading new ≡ record { readable = sound s; state = s })
+
+  pub wrote : (new : List ℕ) → new ≡ lay old 0 (state .put s) → state .fits s → length old ≡ stateSize → Wrote new
+  unfolding written
+  wrote new e f l =
+      let w : new ≡ state .put s = e ∙ lay-all (state .put s) old (l ∙ sym (state .put-length s)) in
+      (rw (eq-eqb (length old) stateSize l) w, λ _. rw w (reads-back s f))
+
+  pub left : (length old ≡ stateSize → ⊥) → Wrote old
+  unfolding written
+  left h = (rw (ne-eqb (length old) stateSize h), λ l. absurd (h l))

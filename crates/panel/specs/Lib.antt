@@ -1,0 +1,4 @@
+pub mod Slices
+pub mod Panel
+pub mod Changed
+pub mod Laws

@@ -1,0 +1,37 @@
+// The calls as C functions on numbers and byte slices, for include/reshqobi.h.
+use crate::door::boot_call;
+ghost use mathlib.Core.Path.{_≡_};
+ghost use mathlib.Core.List.{[], _∷_};
+ghost use Rattle.panel.specs.Panel.{slices, told, booted};
+
+pub mod accesses;
+pub mod changes;
+pub mod domains;
+pub mod door;
+pub mod objects;
+pub mod store;
+pub mod values;
+
+// What a done call can have changed: the state or not, and a run of the store's words.
+pub struct Changed {
+    pub state: bool,
+    pub from: usize,
+    pub to: usize,
+}
+
+// BT: the first state and store.
+#[no_mangle]
+pub extern "C" fn reshqobi_bt(
+    image: &mut [u8],
+    store: &mut [u8],
+    values: &mut [u8],
+    domain: u64,
+    home0: u64,
+    home1: u64,
+    home2: u64,
+    home3: u64,
+) -> u64
+    ensures { λ r. ⌜ told r (slices (now (image .exit)) (now (store .exit)) (now (values .exit))) ≡ booted (slices (now (image .entry)) (now (store .entry)) (now (values .entry))) domain (home0 ∷ home1 ∷ home2 ∷ home3 ∷ []) ⌝ }
+{
+    boot_call(image, store, values, domain, [home0, home1, home2, home3])
+}

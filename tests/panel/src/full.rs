@@ -1,0 +1,100 @@
+//! A state in which every place is used.
+
+#[cfg(test)]
+use refmonitor::image::{decode, encode};
+use refmonitor::image::{Placed, PlacedObject};
+use refmonitor::monitor::*;
+
+/// The pages of each of an estate's eight objects.
+const SIZE: u64 = ESTATE_PAGES / MAX_OBJECTS as u64;
+
+/// The modes of an object's four passwords.
+const MODES: [u64; MAX_PASSWORDS] = [OWNER, R, R | W, NOT | X];
+
+/// The base of the object in a place of an estate.
+fn base(domain: usize, place: usize) -> u64 {
+    estate(domain).start + SIZE * place as u64
+}
+
+/// A password of the object with that base; the registration's is number 4.
+fn password(base: u64, number: usize) -> u64 {
+    1000 + 10 * base + number as u64
+}
+
+fn list(base: u64) -> Capability {
+    Capability {
+        page: base,
+        password: password(base, 0),
+    }
+}
+
+fn object(base: u64) -> PlacedObject {
+    let mut passwords = [None; MAX_PASSWORDS];
+    for (number, place) in passwords.iter_mut().enumerate() {
+        *place = Some(Password {
+            word: password(base, number),
+            mode: MODES[number],
+        });
+    }
+    let entries = (0..MAX_ENTRIES as u64).map(|k| (base + k) * PAGE_WORDS + k);
+    PlacedObject {
+        base,
+        pages: SIZE,
+        passwords,
+        registration: Some(Registration {
+            password: password(base, MAX_PASSWORDS),
+            list: list(base),
+            entries: entries.collect(),
+        }),
+    }
+}
+
+/// Eight slots, one for each object of the domain's own estate.
+fn frame(domain: usize, locked: usize, whole: bool) -> Frame {
+    Frame {
+        slots: (0..MAX_SLOTS).map(|k| list(base(domain, k))).collect(),
+        locked,
+        whole,
+    }
+}
+
+/// Eight objects in every estate, each with four passwords and a registration
+/// with four entries; eight slots and four saved frames in every domain.
+pub fn full() -> Placed {
+    let mut state = Placed::default();
+    for d in 0..DOMAINS {
+        for place in 0..MAX_OBJECTS {
+            state.estates[d][place] = Some(object(base(d, place)));
+        }
+        state.domains[d] = Domain {
+            now: frame(d, 3, false),
+            saved: vec![frame(d, MAX_SLOTS, true); MAX_SAVED],
+        };
+    }
+    state
+}
+
+/// Each object's first pair owns it; the second pair of an estate's first
+/// object owns the last one.
+pub fn store() -> Vec<u64> {
+    let mut store = vec![0; WORDS as usize];
+    let mut pair = |at: u64, named: u64| {
+        store[at as usize] = named * 256 + OWNER;
+        store[at as usize + 1] = password(named, 0);
+    };
+    for d in 0..DOMAINS {
+        for place in 0..MAX_OBJECTS {
+            let base = base(d, place);
+            pair(base * PAGE_WORDS, base);
+        }
+        pair(base(d, 0) * PAGE_WORDS + 2, base(d, MAX_OBJECTS - 1));
+    }
+    store
+}
+
+#[test]
+fn the_full_state_reads() {
+    let image = encode(&full());
+    assert_eq!(decode(&image).as_ref(), Some(&full()));
+    assert!(full().monitor(store()).is_sound());
+}

@@ -1,0 +1,75 @@
+//! The C functions beside the second implementation, call by call: answers,
+//! values, states, stores, and the bytes around them.
+
+use panel::checks::play;
+use panel::real;
+use refmonitor::coverage::{Coverage, TABLE};
+use refmonitor::{cases, inputs};
+
+const SEEDS: std::ops::RangeInclusive<u64> = 1..=10;
+const LINES: u64 = 4_000;
+
+fn plays(name: &str, input: &[u8], seed: Option<u64>) -> usize {
+    play(&real, input, seed).unwrap_or_else(|what| panic!("{name}: {what}"))
+}
+
+/// Every pair of call and answer that can occur is met.
+#[test]
+fn generated_calls() {
+    let (mut coverage, mut calls) = (Coverage::new(), 0);
+    for seed in SEEDS {
+        let input = inputs::input(seed, LINES);
+        coverage.run(&input);
+        calls += plays(&format!("seed {seed}"), &input, None);
+    }
+    assert!(calls > 30_000, "{calls} calls");
+    for (letters, answers) in TABLE {
+        for &answer in answers.iter().filter(|&&answer| answer != 1) {
+            assert!(
+                coverage.times(letters, answer) > 0,
+                "{letters} with answer {answer}"
+            );
+        }
+    }
+}
+
+/// In whatever places objects and passwords stand, the answers are the same.
+#[test]
+fn generated_calls_with_changing_places() {
+    for seed in 101..=104 {
+        let input = inputs::input(seed, LINES);
+        plays(&format!("seed {seed}"), &input, Some(seed));
+    }
+}
+
+#[test]
+fn damaged_lines() {
+    let mut calls = 0;
+    for seed in 1..=2 * inputs::RUBBISH {
+        calls += plays(
+            &format!("damaged, seed {seed}"),
+            &inputs::rubbish(seed, 1_000),
+            None,
+        );
+    }
+    assert!(calls > 5_000, "{calls} calls");
+}
+
+#[test]
+fn written_cases_and_every_range() {
+    for case in cases::all() {
+        plays(&case.name, &case.input, None);
+    }
+    plays("every range", &inputs::sweep(), None);
+}
+
+/// There is no state beside the slices: four runs at the same time.
+#[test]
+fn calls_at_the_same_time() {
+    std::thread::scope(|scope| {
+        for seed in 201..=204 {
+            let input = inputs::input(seed, 2_000);
+            scope.spawn(move || plays(&format!("seed {seed}"), &input, None));
+        }
+    });
+}

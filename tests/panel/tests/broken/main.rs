@@ -1,0 +1,89 @@
+//! Ways of calling with one fault each: the check for it must find it.
+
+mod images;
+mod lengths;
+mod states;
+mod values;
+
+use panel::checks::{boots, flipped, lengths, play, unreadable};
+use panel::stage::stage;
+use panel::{real, Panel, Slices};
+use refmonitor::inputs;
+use refmonitor::monitor::Call;
+
+type Check = fn(Panel) -> Result<(), String>;
+type Broken = fn(&mut Slices, u64, &Call) -> u64;
+
+/// A name, the check that must find the fault, and the way of calling.
+type Fault = (&'static str, Check, Broken);
+
+fn played(panel: Panel) -> Result<(), String> {
+    play(panel, &inputs::input(7, 2_000), None).map(drop)
+}
+
+fn played_in_changing_places(panel: Panel) -> Result<(), String> {
+    play(panel, &inputs::input(7, 2_000), Some(7)).map(drop)
+}
+
+fn wrong_lengths(panel: Panel) -> Result<(), String> {
+    lengths(panel).map(drop)
+}
+
+fn changed_bytes(panel: Panel) -> Result<(), String> {
+    flipped(panel, &Slices::of(&stage()), &stage().store).map(drop)
+}
+
+fn booted(panel: Panel) -> Result<(), String> {
+    boots(panel, 5)
+}
+
+/// The call, and then something more on an answer of one sort.
+fn and(slices: &mut Slices, domain: u64, call: &Call, more: fn(u64, &Call, &mut Slices)) -> u64 {
+    let answer = real(slices, domain, call);
+    more(answer, call, slices);
+    answer
+}
+
+/// The call, with image or store as they were.
+fn but(slices: &mut Slices, domain: u64, call: &Call, image: bool, store: bool) -> u64 {
+    let before = slices.clone();
+    let answer = real(slices, domain, call);
+    if image {
+        slices.image = before.image;
+    }
+    if store {
+        slices.store = before.store;
+    }
+    answer
+}
+
+fn boot(call: &Call) -> bool {
+    matches!(call, Call::Bt { .. })
+}
+
+fn each_is_found(all: &[Fault]) {
+    for (name, check, broken) in all {
+        assert_eq!(check(&real), Ok(()), "without the fault: {name}");
+        assert!(check(broken).is_err(), "not found: {name}");
+    }
+}
+
+#[test]
+fn faults_in_values() {
+    each_is_found(&values::FAULTS);
+}
+
+#[test]
+fn faults_in_states() {
+    each_is_found(&states::FAULTS);
+}
+
+#[test]
+fn faults_with_lengths() {
+    each_is_found(&lengths::FAULTS);
+}
+
+#[test]
+fn faults_with_images() {
+    each_is_found(&images::FAULTS);
+}
