@@ -1,12 +1,13 @@
 MONITOR = target/bin/monitor
 CALLS = examples/booking.calls
 
-.PHONY: help test run explain compare bench
+.PHONY: help test run explain compare panel bench
 help:
 	@echo 'make run [CALLS=FILE]      answers examples/booking.calls, or the call lines in FILE'
 	@echo 'make explain [CALLS=FILE]  the same, each line beside its answer in words'
-	@echo 'make test                  the gate: proves every crate from nothing, tries the must-fail edits, and runs the second implementation beside the program'
+	@echo 'make test                  the gate: proves every crate from nothing, tries the must-fail edits, and runs the second implementation beside the program and the C functions'
 	@echo 'make compare               runs the second implementation beside the program, without the proofs'
+	@echo 'make panel                 builds target/panel/libreshqobi.a, for C and Rust, and runs both clients on the booking example'
 	@echo 'make bench                 counts instructions and times of the program beside the second implementation'
 	@echo 'All but test build the program only where it is missing or older than its code. make MONITOR=FILE .. takes another program.'
 
@@ -26,10 +27,18 @@ explain: $(MONITOR)
 compare: $(MONITOR)
 	@tests/beside $(MONITOR)
 
+panel: target/panel/libreshqobi.a
+	@clients/run
+
 bench: $(MONITOR)
 	@tests/cargo build --profile speed --offline --quiet
 	@tests/cargo run --profile speed --offline --quiet --bin bench -- $(abspath $(MONITOR)) $(abspath target/bench)
+	@tests/panel/bench $(abspath target/bench)
 
 target/bin/monitor: crates.txt $(wildcard crates/*/src/*.rt)
 	@tests/build monitor
+	@touch -c $@
+
+target/panel/libreshqobi.a: crates.txt $(wildcard crates/*/src/*.rt)
+	@tests/archive
 	@touch -c $@

@@ -5,7 +5,8 @@
  * and the call's arguments. The result is the answer number: RESHQOBI_DONE, or one of the refusals below.
  *
  * A refusal leaves image and store as they were, byte for byte, and zeros in the values. Values of a wrong length are not touched.
- * Every function takes every number and every length, and returns. A pointer must point to as many bytes as its length says.
+ * Every function takes every number and every length, and returns. A pointer must point to as many bytes as its length says, and
+ * not be null.
  * There is no state beside these slices: calls on different images and stores may run at the same time.
  */
 #ifndef RESHQOBI_H

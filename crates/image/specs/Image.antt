@@ -1,4 +1,4 @@
--- The image of a state: its length, how it is read, and the laws of reading and writing.
+-- How an image is read and written, and the laws of both: document 02, T-02.
 use Prim.Native.Nat.{ℕ, _≤_}
 use mathlib.Core.Path.{_≡_, refl, ap, sym, _∙_}
 use mathlib.Core.Bool.{Bool, true, false, cond, _&&_, true≢false}
@@ -19,7 +19,7 @@ use Rattle.image.specs.declared.Reading.{Reading}
 use Rattle.image.specs.Sizes.{stateSize}
 use Rattle.image.specs.Layout.{capability, password, entries, registration, passwords, object, objects, estate, estates, table, state}
 
--- an image that has the length, whose yes-or-no bytes are 1 or 0 and whose state is sound is read as that state; any other is refused
+-- an image reads if it has the length, its bytes for yes or no are 1 or 0, and its state is sound
 unfoldable pub reading : List ℕ → Reading
 reading image =
     cond (eqb (length image) stateSize)
@@ -35,7 +35,7 @@ pub table-ok : (bs : List ℕ) → table .ok bs ≡ true
 unfolding number byte capability password entries registration passwords object objects estate estates table
 table-ok bs = refl
 
--- "Writing a sound state and reading the image gives that state": `fits` says that the numbers fit their types and the arrays are full
+-- WHAT IS WRITTEN FOR A SOUND STATE READS AS THAT STATE. `fits`: the numbers fit their types and the arrays are full, as in every value of the code
 pub reads-back : (s : State) → state .fits s → reading (state .put s) ≡ record { readable = sound s; state = s }
 unfolding reading
 reads-back s f =
@@ -60,11 +60,11 @@ module _ (a : List ℕ) (ra : reading a .readable ≡ true) where
   pub readable-ok : state .ok a ≡ true
   readable-ok = and-left (state .ok a) (sound (state .get a)) (rw readable-is at ra)
 
-  -- "An image reads only as a sound state"
+  -- WHAT READS IS SOUND
   pub readable-sound : sound (reading a .state) ≡ true
   readable-sound = rw readable-is (and-right (state .ok a) (sound (state .get a)) (rw readable-is at ra))
 
--- "no two images give the same state"
+-- NO TWO IMAGES READ AS THE SAME STATE
 pub one-image : (a b : List ℕ) (ha : Bytes a) (hb : Bytes b) (ra : reading a .readable ≡ true) (rb : reading b .readable ≡ true)
     → reading a .state ≡ reading b .state → a ≡ b
 one-image a b ha hb ra rb e =

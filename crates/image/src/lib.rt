@@ -18,9 +18,9 @@ ghost use Rattle.image.specs.Sizes.{stateSize};
 ghost use Rattle.image.specs.Layout.{state};
 ghost use Rattle.image.specs.Image.{reading, written};
 
-pub mod frames;
+mod frames;
 pub mod numbers;
-pub mod objects;
+mod objects;
 pub mod sizes;
 
 // What an image reads as: whether it is readable, and then its state.

@@ -4,3 +4,4 @@ pub mod Saved
 pub mod Valued
 pub mod Changed
 pub mod Concluded
+pub mod Refused

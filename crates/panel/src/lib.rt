@@ -5,12 +5,12 @@ ghost use mathlib.Core.List.{[], _∷_};
 ghost use Rattle.panel.specs.Panel.{slices, told, booted};
 
 pub mod accesses;
-pub mod changes;
+mod changes;
 pub mod domains;
-pub mod door;
+mod door;
 pub mod objects;
-pub mod store;
-pub mod values;
+mod store;
+mod values;
 
 // What a done call can have changed: the state or not, and a run of the store's words.
 pub struct Changed {
