@@ -1,10 +1,10 @@
 -- Bytes that are laid into a buffer, one run behind the other.
 use Prim.Native.Nat.{ℕ, suc, _+_}
-use mathlib.Core.Path.{_≡_, refl, ap, sym, _∙_}
+use mathlib.Core.Path.{_≡_, refl, _∙_}
 use mathlib.Core.List.{List, [], _∷_, _++_, append-nil}
 use native.Mathlib.Omega.{arith}
 use native.Mathlib.Numerals.{add-one}
-use lib.ListN.{length, set, drop, length-set, drop-of-length-le}
+use lib.ListN.{length, set, length-set, drop-of-length-le}
 use lib.Seq.{sets, sets-eq}
 use Rattle.codec.specs.Codec.{Codec}
 

@@ -1,15 +1,15 @@
 -- How an image is read and written, and the laws of both: document 02, T-02.
-use Prim.Native.Nat.{ℕ, _≤_}
+use Prim.Native.Nat.{ℕ}
 use mathlib.Core.Path.{_≡_, refl, ap, sym, _∙_}
-use mathlib.Core.Bool.{Bool, true, false, cond, _&&_, true≢false}
-use mathlib.Core.List.{List, [], _++_, append-nil}
+use mathlib.Core.Bool.{Bool, true, false, cond, _&&_}
+use mathlib.Core.List.{List, [], append-nil}
 use native.Mathlib.Omega.{arith}
 use lib.Dec.{eqb}
 use lib.ListN.{length}
 use lib.Seq.{take-all}
 use borrow.Author.Tests.{eqb-true, eq-eqb, ne-eqb}
 use Rattle.bounded.specs.Bools.{and-left, and-right}
-use Rattle.codec.specs.Codec.{Bytes, Codec, same-image}
+use Rattle.codec.specs.Codec.{Bytes, same-image}
 use Rattle.codec.specs.Laid.{lay, lay-all}
 use Rattle.codec.specs.Number.{number, byte}
 use Rattle.state.specs.Places.{emptyState}

@@ -1,6 +1,6 @@
 -- A call leaves the state, and the words, that `changedBy` does not name.
 use Prim.Native.Nat.{ℕ, _+_, _-_, _*_, _<_, _≤_}
-use mathlib.Core.Path.{_≡_, refl, ap, sym, _∙_}
+use mathlib.Core.Path.{_≡_, refl, ap, _∙_}
 use mathlib.Core.Bool.{Bool, true, false, cond, not, true≢false}
 use mathlib.Core.List.{List, _++_, append-assoc}
 use mathlib.Core.Logic.{_⊎_, inl, inr, ⊎-elim}
@@ -16,7 +16,7 @@ use Rattle.calls.specs.Changes.{zeroed, applyAll}
 use Rattle.calls.specs.Rule.{isPage}
 use Rattle.calls.specs.Rules.{rule, inRange, changes, view}
 use Rattle.calls.specs.Step.{step}
-use Rattle.calls.specs.Laws.Passed.{Does, step-cases}
+use Rattle.calls.specs.Laws.Passed.{step-cases}
 use Rattle.calls.specs.declared.Call.{Call}
 use Rattle.calls.specs.declared.Call.the-variants.{OnStore, OnObject, OnDomain}
 use Rattle.calls.specs.declared.Access.the-variants.{Read, Write, Execute, Lookup}

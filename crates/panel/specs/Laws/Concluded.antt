@@ -16,7 +16,7 @@ use Rattle.codec.specs.Array.{gets-length}
 use Rattle.image.specs.Sizes.{stateSize}
 use Rattle.image.specs.Layout.{state}
 use Rattle.image.specs.Image.{reading, written, readable-length, readable-sound, writes-back}
-use Rattle.calls.specs.Answers.{refusalNumber, valuesOf, valuesFrom}
+use Rattle.calls.specs.Answers.{refusalNumber, valuesFrom}
 use Rattle.calls.specs.Boot.{boot}
 use Rattle.calls.specs.Step.{Result, world, result, step, unchecked, admitted}
 use Rattle.calls.specs.Laws.Unchecked.{step-unchecked}

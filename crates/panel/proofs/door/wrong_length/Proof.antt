@@ -1,4 +1,3 @@
-use borrow.Author.Needs.{needs}
 use borrow.Author.Tests.{eq-eqb, ne-eqb}
 use Rattle.panel.proofs.door.wrong_length.Statement.{statement}
 use Rattle.panel.proofs.door.wrong_length.Tie as tie
