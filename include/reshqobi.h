@@ -7,7 +7,8 @@
  * A refusal leaves image and store as they were, byte for byte, and zeros in the values. Values of a wrong length are not touched.
  * Every function takes every number and every length, and returns. A pointer must point to as many bytes as its length says, and
  * not be null.
- * There is no state beside these slices: calls on different images and stores may run at the same time.
+ * There is no state beside these slices: calls on different images and stores may run at the same time. A call takes some 140 KB
+ * of stack (measured, not proved) and no other memory.
  */
 #ifndef RESHQOBI_H
 #define RESHQOBI_H

@@ -3,7 +3,7 @@
 use crate::{Refusal, IMAGE_BYTES, STORE_BYTES};
 use std::fmt;
 
-/// A state and a store. Two are equal when both states and both stores are.
+/// A state and a store. Two are equal when image and store are, byte by byte.
 #[derive(Clone, PartialEq, Eq)]
 pub struct Monitor {
     pub(crate) image: Box<[u8; IMAGE_BYTES]>,
