@@ -3,9 +3,9 @@
 use Prim.Native.Nat.{ℕ}
 use mathlib.Core.Path.{_≡_, refl}
 use mathlib.Core.List.{List, [], _∷_}
-use Rattle.judge.specs.Judged.{judged}
-use Rattle.cases.specs.Runs.{Exchange, by, answersBy, by-search}
-use Rattle.cases.specs.Marked.{answersAfter, expectedAfter}
+use Rattle.judge.specs.Search.{searched}
+use Rattle.cases.specs.Runs.{Exchange, by, answersBy}
+use Rattle.cases.specs.Marked.{answersAfter, expectedAfter, computedAfter, by-computing}
 use Rattle.calls.specs.declared.Call.the-variants.{OnStore, OnObject, OnDomain}
 use Rattle.calls.specs.declared.Access.the-variants.{Read, Write, Lookup}
 use Rattle.calls.specs.declared.ObjectCall.the-variants.{Create, AddPassword}
@@ -57,6 +57,9 @@ endRuns =
     ∷ [])
     ∷ []
 
-pub ends : answersAfter judged endRuns ≡ expectedAfter endRuns
+computed : computedAfter searched endRuns ≡ expectedAfter endRuns
 unfolding answersBy
-ends = by-search (λ j. answersAfter j endRuns ≡ expectedAfter endRuns) refl
+computed = refl
+
+pub ends : answersAfter endRuns ≡ expectedAfter endRuns
+ends = by-computing endRuns computed

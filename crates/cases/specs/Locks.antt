@@ -7,9 +7,9 @@ use native.Mathlib.Omega.{arith}
 use lib.Dec.{eqb}
 use Rattle.state.specs.Update.{lockSlot}
 use Rattle.state.specs.declared.Frame.{Frame}
-use Rattle.judge.specs.Judged.{judged}
-use Rattle.cases.specs.Runs.{Exchange, by, answersBy, by-search}
-use Rattle.cases.specs.Marked.{answersAfter, expectedAfter, registered}
+use Rattle.judge.specs.Search.{searched}
+use Rattle.cases.specs.Runs.{Exchange, by, answersBy}
+use Rattle.cases.specs.Marked.{answersAfter, expectedAfter, computedAfter, by-computing, registered}
 use Rattle.calls.specs.declared.Call.the-variants.{OnDomain}
 use Rattle.calls.specs.declared.DomainCall.the-variants.{Insert, Remove, Get, Lock, PdxCall, PdxReturn}
 
@@ -35,9 +35,12 @@ lockRuns =
     ∷ [])
     ∷ []
 
-pub locks : answersAfter judged lockRuns ≡ expectedAfter lockRuns
+computed : computedAfter searched lockRuns ≡ expectedAfter lockRuns
 unfolding answersBy
-locks = by-search (λ j. answersAfter j lockRuns ≡ expectedAfter lockRuns) refl
+computed = refl
+
+pub locks : answersAfter lockRuns ≡ expectedAfter lockRuns
+locks = by-computing lockRuns computed
 
 -- LO of a slot that is locked changes nothing, nor does LO 255 under the whole lock
 pub locked-already : (f : Frame) (i : ℕ) → i < f .locked → eqb i 255 ≡ false → lockSlot f i ≡ f

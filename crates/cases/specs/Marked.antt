@@ -1,13 +1,15 @@
 -- The marked cases of document 01, "The call program" and "Around the edges": one table, proved in one go.
 use Prim.Native.Nat.{ℕ}
-use mathlib.Core.Path.{_≡_, refl}
+use mathlib.Core.Path.{_≡_, refl, _∙_}
 use mathlib.Core.List.{List, [], _∷_, _++_, map}
 use lib.ListN.{replicate}
+use Rattle.judge.specs.Search.{searched}
 use Rattle.judge.specs.Judged.{judged}
 use Rattle.calls.specs.View.{Judging}
 use Rattle.calls.specs.Step.{Result, worldOf, answerOf}
 use Rattle.calls.specs.Boot.{boot}
-use Rattle.cases.specs.Runs.{Exchange, by, answersBy, expected, by-search}
+use Rattle.calls.specs.Laws.Booted.{boot-sound}
+use Rattle.cases.specs.Runs.{Exchange, by, answers, expected, answersBy, answers-are, map-same, by-search}
 use Rattle.calls.specs.declared.Call.the-variants.{OnStore, OnObject, OnDomain}
 use Rattle.calls.specs.declared.Access.the-variants.{Read, Write, Lookup}
 use Rattle.calls.specs.declared.ObjectCall.the-variants.{Create, AddPassword, Register}
@@ -55,11 +57,21 @@ registered =
     ∷ []
 
 -- the answers of runs that each start after the whole listing, as they are and as they must be
-abbrev pub answersAfter : Judging → List (List Exchange) → List (List (List ℕ))
-answersAfter judging runs = map (λ (es : List Exchange). answersBy judging (worldOf listingBoot) (listing ++ es)) runs
+abbrev pub answersAfter : List (List Exchange) → List (List (List ℕ))
+answersAfter runs = map (λ (es : List Exchange). answers (worldOf listingBoot) (listing ++ es)) runs
 
 abbrev pub expectedAfter : List (List Exchange) → List (List (List ℕ))
 expectedAfter runs = map (λ (es : List Exchange). expected (listing ++ es)) runs
+
+-- they are computed by the search, and without check 3
+abbrev pub computedAfter : Judging → List (List Exchange) → List (List (List ℕ))
+computedAfter judging runs = map (λ (es : List Exchange). answersBy judging (worldOf listingBoot) (listing ++ es)) runs
+
+answers-after : (runs : List (List Exchange)) → answersAfter runs ≡ computedAfter judged runs
+answers-after runs = map-same _ _ (λ es. answers-are (worldOf listingBoot) (boot-sound _ _ _) (listing ++ es)) runs
+
+pub by-computing : (runs : List (List Exchange)) → computedAfter searched runs ≡ expectedAfter runs → answersAfter runs ≡ expectedAfter runs
+by-computing runs p = answers-after runs ∙ by-search (λ j. computedAfter j runs ≡ expectedAfter runs) p
 
 -- the cases; each starts after the whole listing
 abbrev pub cases : List (List Exchange)
@@ -85,13 +97,16 @@ cases =
     ∷ []
 
 -- the whole table: the boot's answer, and the answers of each run
-abbrev pub answered : Judging → List (List (List ℕ))
-answered judging = (answerOf listingBoot ∷ []) ∷ answersAfter judging cases
+abbrev pub answered : List (List (List ℕ))
+answered = (answerOf listingBoot ∷ []) ∷ answersAfter cases
 
 abbrev pub wantedAnswers : List (List (List ℕ))
 wantedAnswers = ((0 ∷ 0 ∷ []) ∷ []) ∷ expectedAfter cases
 
--- every marked case is answered as the paper says
-pub marked : answered judged ≡ wantedAnswers
+computed : (answerOf listingBoot ∷ []) ∷ computedAfter searched cases ≡ wantedAnswers
 unfolding answersBy
-marked = by-search (λ j. answered j ≡ wantedAnswers) refl
+computed = refl
+
+-- every marked case is answered as the paper says
+pub marked : answered ≡ wantedAnswers
+marked = rw (answers-after cases) (by-search (λ j. (answerOf listingBoot ∷ []) ∷ computedAfter j cases ≡ wantedAnswers) computed)

@@ -1,7 +1,7 @@
 -- The fault that this monitor replaces: a nested PDX call was refused, and its caller stayed extended. In these runs domain 0
 -- enters a procedure of domain 1, and a further call from inside is refused, once for each refusal that a PDX call can have.
 use Prim.Native.Nat.{ℕ}
-use mathlib.Core.Path.{_≡_, refl}
+use mathlib.Core.Path.{_≡_, refl, _∙_}
 use mathlib.Core.Bool.{Bool, true, false, _&&_}
 use mathlib.Core.List.{List, [], _∷_, _++_, map}
 use lib.Dec.{eqb}
@@ -10,11 +10,13 @@ use Rattle.bounded.specs.Fill.{tabulate}
 use Rattle.state.specs.Places.{slotAt, savedAt, domainAt}
 use Rattle.state.specs.declared.Domain.{Domain}
 use Rattle.state.specs.declared.Frame.{Frame}
+use Rattle.judge.specs.Search.{searched}
 use Rattle.judge.specs.Judged.{judged}
 use Rattle.calls.specs.View.{World, Judging}
 use Rattle.calls.specs.Changes.{flag}
 use Rattle.calls.specs.Step.{worldOf}
-use Rattle.cases.specs.Runs.{Exchange, by, answersBy, worldBy, expected, by-search}
+use Rattle.calls.specs.Laws.Booted.{boot-sound}
+use Rattle.cases.specs.Runs.{Exchange, by, answers, expected, after, answersBy, afterBy, answers-are, after-is, map-same, by-search}
 use Rattle.cases.specs.Marked.{listingBoot, listing, registered}
 use Rattle.calls.specs.declared.Call.the-variants.{OnStore, OnDomain}
 use Rattle.calls.specs.declared.Access.the-variants.{Write}
@@ -62,9 +64,6 @@ nested =
     }
     ∷ []
 
-abbrev pub start : World
-start = worldOf listingBoot
-
 -- all the numbers of a protection domain: each frame's slot count, locked count, whole lock and slots, and how many are saved
 abbrev pub frameNumbers : Frame → List ℕ
 frameNumbers f = f .count ∷ f .locked ∷ flag (f .whole) ∷ tabulate 8 (λ k. slotAt f k .page) ++ tabulate 8 (λ k. slotAt f k .password)
@@ -78,14 +77,19 @@ domainNumbers m =
     ++ frameNumbers (savedAt m 2)
     ++ frameNumbers (savedAt m 3)
 
--- the caller's slots, locks and saved domains behind some exchanges
-abbrev pub callerAfter : Judging → List Exchange → List ℕ
-callerAfter judging es = let w = worldBy judging start es in domainNumbers (domainAt (w .state) 0)
+-- the caller's slots, locks and saved domains
+abbrev pub caller : World → List ℕ
+caller w = domainNumbers (domainAt (w .state) 0)
+
+answers-computed : map (λ (n : Nested). answersBy searched (worldOf listingBoot) (whole n)) nested ≡ map (λ (n : Nested). expected (whole n)) nested
+unfolding answersBy
+answers-computed = refl
 
 -- every line is answered as it says: the page is written inside, the nested call refused, the write after the return refused
-pub nested-answers : map (λ (n : Nested). answersBy judged start (whole n)) nested ≡ map (λ (n : Nested). expected (whole n)) nested
-unfolding answersBy
-nested-answers = by-search (λ j. map (λ (n : Nested). answersBy j start (whole n)) nested ≡ map (λ (n : Nested). expected (whole n)) nested) refl
+pub nested-answers : map (λ (n : Nested). answers (worldOf listingBoot) (whole n)) nested ≡ map (λ (n : Nested). expected (whole n)) nested
+nested-answers =
+    map-same _ _ (λ n. answers-are (worldOf listingBoot) (boot-sound _ _ _) (whole n)) nested
+    ∙ by-search (λ j. map (λ (n : Nested). answersBy j (worldOf listingBoot) (whole n)) nested ≡ map (λ (n : Nested). expected (whole n)) nested) answers-computed
 
 abbrev pub sameNumbers : List ℕ → List ℕ → Bool
 sameNumbers [] [] = true
@@ -94,9 +98,29 @@ sameNumbers (x ∷ xs) [] = false
 sameNumbers (x ∷ xs) (y ∷ ys) = eqb x y && sameNumbers xs ys
 
 -- whether the nested call leaves the caller's slots, locks and saved domains as they were
-abbrev pub unchanged : Judging → Nested → Bool
-unchanged judging n = sameNumbers (callerAfter judging (n .before)) (callerAfter judging (n .before ++ n .call ∷ []))
+abbrev pub unchanged : Nested → Bool
+unchanged n =
+    let w = after (worldOf listingBoot) (n .before) in
+    let w′ = after (worldOf listingBoot) (n .before ++ n .call ∷ []) in
+    sameNumbers (caller w) (caller w′)
 
-pub nested-unchanged : map (unchanged judged) nested ≡ replicate 6 true
-unfolding worldBy
-nested-unchanged = by-search (λ j. map (unchanged j) nested ≡ replicate 6 true) refl
+-- the same, as it is computed
+abbrev pub unchangedBy : Judging → Nested → Bool
+unchangedBy judging n =
+    let w = afterBy judging (worldOf listingBoot) (n .before) in
+    let w′ = afterBy judging (worldOf listingBoot) (n .before ++ n .call ∷ []) in
+    sameNumbers (caller w) (caller w′)
+
+unchanged-computed : map (unchangedBy searched) nested ≡ replicate 6 true
+unfolding afterBy
+unchanged-computed = refl
+
+unchanged-is : (n : Nested) → unchanged n ≡ unchangedBy judged n
+unchanged-is n =
+    rw (
+      after-is (worldOf listingBoot) (boot-sound _ _ _) (n .before),
+      after-is (worldOf listingBoot) (boot-sound _ _ _) (n .before ++ n .call ∷ []),
+    )
+
+pub nested-unchanged : map unchanged nested ≡ replicate 6 true
+nested-unchanged = map-same _ _ unchanged-is nested ∙ by-search (λ j. map (unchangedBy j) nested ≡ replicate 6 true) unchanged-computed

@@ -8,7 +8,7 @@ use mathlib.Core.Option.{Option, none, some}
 use native.Mathlib.Omega.{arith}
 use lib.Dec.{leb, eqb}
 use lib.ListN.{length}
-use borrow.Author.Tests.{leb-true, eq-eqb}
+use borrow.Author.Tests.{leb-true}
 use Rattle.bounded.specs.Bools.{and-left, and-right}
 use Rattle.state.specs.Places.{domainAt}
 use Rattle.state.specs.Extent.{liesIn}
@@ -17,10 +17,10 @@ use Rattle.soundness.specs.Sound.{sound}
 use Rattle.judge.specs.Judged.{judged}
 use Rattle.calls.specs.View.{World, View, Check, check, firstFailing}
 use Rattle.calls.specs.Rules.{early, view, late, checks, touched, changes}
-use Rattle.calls.specs.Step.{concluded, storeCheck, uncheckedBy, unchecked, worldOf, step, admitted}
+use Rattle.calls.specs.Step.{concluded, storeCheck, uncheckedBy, unchecked, worldOf, step}
 use Rattle.calls.specs.Step.{answerOf}
 use Rattle.calls.specs.Laws.Passed.{Passes, Does, step-cases}
-use Rattle.calls.specs.Laws.Unchecked.{step-unchecked}
+use Rattle.calls.specs.Laws.Unchecked.{sound-unchecked}
 use Rattle.calls.specs.Laws.Sound.{step-sound, words-kept}
 use Rattle.calls.specs.declared.Call.{Call}
 use Rattle.calls.specs.declared.Call.the-variants.{OnStore, OnObject, OnDomain}
@@ -61,8 +61,7 @@ lone G =
 
 -- a good world passes check 3
 pub step-good : (w : World) (d : ℕ) (c : Call) → Good w → step w d c ≡ unchecked w d c
-unfolding admitted
-step-good w d c g = step-unchecked w d c (rw (eq-eqb _ 8192 (g .long)) (g .well))
+step-good w d c g = sound-unchecked w d c (g .well)
 
 module _ (G : Group) (w : World) (d : ℕ) (c : Call) (v : View) where
   -- by the same checks and the same view a call answers alike in the world and in the part

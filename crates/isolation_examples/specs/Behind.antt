@@ -38,7 +38,7 @@ abbrev pub behind′ : Told
 behind′ = told membersPart
 
 -- every premise's test is true, and every part of the conclusion is the same
-pub behind-shown : Shown judged alone behind behind′ allTrue allSame
+pub behind-shown : Shown alone behind behind′ allTrue allSame
 unfolding comparing
 behind-shown = by-computing alone behind behind′ allTrue allSame (record { answered = refl; answered′ = refl; tested = refl; compared = refl })
 

@@ -21,6 +21,7 @@ use Rattle.state.specs.declared.Domain.{Domain}
 use Rattle.judge.specs.Judged.{judged}
 use Rattle.calls.specs.Changes.{flag}
 use Rattle.calls.specs.View.{World, Judging}
+use Rattle.calls.specs.Laws.Booted.{boot-sound}
 use Rattle.cases.specs.Nested.{sameNumbers}
 use Rattle.isolation.specs.Group.{Group, member, insidePage, insideAddress}
 use Rattle.isolation.specs.Runs.{Run, startOf, answers}
@@ -201,10 +202,10 @@ partsBy judging G r r′ =
 pub parts-hold : (G : Group) (r r′ : Run) → Isolated G r r′ → partsBy judged G r r′ ≡ allSame
 parts-hold G r r′ i =
     rw (
-      trace-answers G (startOf r) (r .events),
-      trace-answers G (startOf r′) (r′ .events),
-      trace-last G (startOf r) (r .events),
-      trace-last G (startOf r′) (r′ .events),
+      trace-answers G (startOf r) (boot-sound _ _ _) (r .events),
+      trace-answers G (startOf r′) (boot-sound _ _ _) (r′ .events),
+      trace-last G (startOf r) (boot-sound _ _ _) (r .events),
+      trace-last G (startOf r′) (boot-sound _ _ _) (r′ .events),
     )
     (same-parts G _ _ _ _ (i .same-answers) (i .same-inside))
 

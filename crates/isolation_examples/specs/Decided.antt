@@ -11,11 +11,15 @@ use Rattle.bounded.specs.Every.{below-at}
 use Rattle.state.specs.Places.{domainAt}
 use Rattle.state.specs.declared.Table.{Table}
 use Rattle.state.specs.declared.Frame.{Frame}
+use Rattle.soundness.specs.Sound.{sound}
 use Rattle.judge.specs.Judged.{judged}
 use Rattle.calls.specs.Answers.{numberOf}
 use Rattle.calls.specs.View.{World}
-use Rattle.calls.specs.Step.{worldOf}
+use Rattle.calls.specs.Step.{unchecked, worldOf}
 use Rattle.calls.specs.Boot.{homeOf}
+use Rattle.calls.specs.Laws.Unchecked.{sound-unchecked}
+use Rattle.calls.specs.Laws.Sound.{unchecked-sound}
+use Rattle.calls.specs.Laws.Booted.{boot-sound}
 use Rattle.calls.specs.declared.Presented.{Presented}
 use Rattle.isolation.specs.Members.{member-below}
 use Rattle.isolation.specs.Group.{Group, member}
@@ -109,24 +113,36 @@ call-holds G w e false m a = (
   record { of-member = λ n. absurd (true≢false (sym n ∙ m)); of-outsider = λ n. granted-holds G w e (a .granted) },
 )
 
--- and all along
-along-holds : (G : Group) (w : World) (es : List Event) → AllTrue (traceBy judged G w es .tests) → Along G w es
+-- and all along, in a run that starts sound: check 3 does not matter there
+along-holds : (G : Group) (w : World) → sound (w .state) ≡ true → (es : List Event) → AllTrue (traceBy judged G w es .tests) → Along G w es
 unfolding traceBy
-along-holds G w [] a = state-holds G w (a .slots)
-along-holds G w (e ∷ es) a =
-    let (state, call) = call-holds G w e (member G (e .domain)) refl (both-left _ _ a) in
-    (state, (call, along-holds G (worldOf (resultOf w e)) es (both-right (callTests (member G (e .domain)) G w e (resultOf w e)) _ a)))
+along-holds G w h [] a = state-holds G w (a .slots)
+along-holds G w h (e ∷ es) a =
+    let r = unchecked w (e .domain) (e .call) in
+    let same = sound-unchecked w (e .domain) (e .call) h in
+    let (state, call) = call-holds G w e (member G (e .domain)) refl (rw same (both-left (callTests (member G (e .domain)) G w e r) _ a)) in (
+      state,
+      (
+        call,
+        rw same (along-holds G (worldOf r) (unchecked-sound w (e .domain) (e .call) h) es (both-right (callTests (member G (e .domain)) G w e r) _ a)),
+      ),
+    )
 
 -- the answers and the last world are those of the claim
-pub trace-answers : (G : Group) (w : World) (es : List Event) → traceBy judged G w es .answers ≡ answers G w es
+pub trace-answers : (G : Group) (w : World) → sound (w .state) ≡ true → (es : List Event) → traceBy judged G w es .answers ≡ answers G w es
 unfolding traceBy answers
-trace-answers G w [] = refl
-trace-answers G w (e ∷ es) = rw (trace-answers G (worldOf (resultOf w e)) es)
+trace-answers G w h [] = refl
+trace-answers G w h (e ∷ es) =
+    rw (
+      sound-unchecked w (e .domain) (e .call) h,
+      trace-answers G (worldOf (unchecked w (e .domain) (e .call))) (unchecked-sound w (e .domain) (e .call) h) es,
+    )
 
-pub trace-last : (G : Group) (w : World) (es : List Event) → traceBy judged G w es .last ≡ final w es
+pub trace-last : (G : Group) (w : World) → sound (w .state) ≡ true → (es : List Event) → traceBy judged G w es .last ≡ final w es
 unfolding traceBy final
-trace-last G w [] = refl
-trace-last G w (e ∷ es) = trace-last G (worldOf (resultOf w e)) es
+trace-last G w h [] = refl
+trace-last G w h (e ∷ es) =
+    rw (sound-unchecked w (e .domain) (e .call) h) (trace-last G _ (unchecked-sound w (e .domain) (e .call) h) es)
 
 homes-hold : (G : Group) (r r′ : Run) → homesTest G r r′ ≡ true → (d : ℕ) → member G d ≡ true → homeOf (r .homes) d ≡ homeOf (r′ .homes) d
 unfolding homesTest
@@ -148,6 +164,6 @@ tests-hold G r r′ h c =
       booted′ = eqb-true _ _ (and-right (bootTest r) _ b);
       homes = homes-hold G r r′ (ap (λ (t : Tests). t .homes) h);
       calls = c;
-      premises = along-holds G (startOf r) (r .events) (both-left _ (traceOf judged G r′ .tests) a);
-      premises′ = along-holds G (startOf r′) (r′ .events) (both-right (traceOf judged G r .tests) _ a);
+      premises = along-holds G (startOf r) (boot-sound _ _ _) (r .events) (both-left _ (traceOf judged G r′ .tests) a);
+      premises′ = along-holds G (startOf r′) (boot-sound _ _ _) (r′ .events) (both-right (traceOf judged G r .tests) _ a);
     }

@@ -4,7 +4,6 @@ use mathlib.Core.Bool.{_||_}
 use mathlib.Core.List.{[], _∷_}
 use lib.Dec.{eqb}
 use lib.ListN.{replicate}
-use Rattle.judge.specs.Judged.{judged}
 use Rattle.cases.specs.Runs.{by}
 use Rattle.calls.specs.declared.Call.the-variants.{OnStore, OnObject, OnDomain}
 use Rattle.calls.specs.declared.Access.the-variants.{Read, Write, Lookup}
@@ -98,7 +97,7 @@ other =
     }
 
 -- every line is answered as told, every premise's test is true, and every part of the conclusion is the same
-pub shown : Shown judged pair one other allTrue allSame
+pub shown : Shown pair one other allTrue allSame
 unfolding comparing
 shown = by-computing pair one other allTrue allSame (record { answered = refl; answered′ = refl; tested = refl; compared = refl })
 

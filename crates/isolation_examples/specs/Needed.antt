@@ -6,7 +6,6 @@ use mathlib.Core.List.{List, [], _∷_}
 use lib.Dec.{eqb}
 use lib.ListN.{replicate}
 use Rattle.judge.specs.Search.{searched}
-use Rattle.judge.specs.Judged.{judged}
 use Rattle.cases.specs.Runs.{Exchange, by}
 use Rattle.calls.specs.declared.Call.the-variants.{OnStore, OnObject, OnDomain}
 use Rattle.calls.specs.declared.Access.the-variants.{Read, Write}
@@ -17,7 +16,7 @@ use Rattle.isolation.specs.Runs.{membersCalls}
 use Rattle.isolation.specs.Claim.{Isolated}
 use Rattle.isolation_examples.specs.Tests.{Tests, allTrue}
 use Rattle.isolation_examples.specs.Compared.{Parts, comparing}
-use Rattle.isolation_examples.specs.Shown.{Told, runOf, Shown, by-computing, differ, fails, told, done, refuses, registers}
+use Rattle.isolation_examples.specs.Shown.{Told, runOf, Computed, Shown, by-computing, differ, fails, told, done, refuses, registers}
 
 -- the premises that can be broken by themselves: that on slots cannot (Slots.antt); the members' calls come last
 pub data Premise : Type 0 where
@@ -37,11 +36,11 @@ alone = record { domains = eqb 1 }
 
 -- a premise is broken, and no other; the members' calls are the same; the conclusion fails
 pub record Broken (p : Premise) (t t′ : Told) (parts : Parts) : Type 0 where
-  pub shown : Shown judged alone t t′ (allBut p) parts
+  pub shown : Shown alone t t′ (allBut p) parts
   pub calls : membersCalls alone (runOf t) ≡ membersCalls alone (runOf t′)
   pub failing : Isolated alone (runOf t) (runOf t′) → ⊥
 
-broken : (p : Premise) (t t′ : Told) (parts : Parts) → Shown searched alone t t′ (allBut p) parts
+broken : (p : Premise) (t t′ : Told) (parts : Parts) → Computed searched alone t t′ (allBut p) parts
     → membersCalls alone (runOf t) ≡ membersCalls alone (runOf t′) → differ parts ≡ true → Broken p t t′ parts
 broken p t t′ parts s c h = let s = by-computing alone t t′ (allBut p) parts s in record { shown = s; calls = c; failing = fails s h }
 
@@ -193,7 +192,7 @@ called = told (by 1 (OnStore (Read 2048)) (0 ∷ 8207 ∷ []) ∷ [])
 abbrev pub called′ : Told
 called′ = told (by 1 (OnStore (Read 2049)) (0 ∷ 12 ∷ []) ∷ [])
 
-pub called-shown : Shown judged alone called called′ allTrue inAnswers
+pub called-shown : Shown alone called called′ allTrue inAnswers
 unfolding comparing
 called-shown =
     by-computing alone called called′ allTrue inAnswers (record { answered = refl; answered′ = refl; tested = refl; compared = refl })

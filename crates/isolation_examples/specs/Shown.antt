@@ -7,7 +7,8 @@ use lib.ListN.{replicate}
 use Rattle.judge.specs.Search.{searched}
 use Rattle.judge.specs.Judged.{judged}
 use Rattle.calls.specs.View.{Judging}
-use Rattle.cases.specs.Runs.{Exchange, answersBy, expected, by-search}
+use Rattle.calls.specs.Laws.Booted.{boot-sound}
+use Rattle.cases.specs.Runs.{Exchange, answers, expected, answersBy, answers-are, by-search}
 use Rattle.calls.specs.declared.Call.{Call}
 use Rattle.calls.specs.declared.Call.the-variants.{OnObject}
 use Rattle.calls.specs.declared.ObjectCall.the-variants.{Register}
@@ -30,23 +31,37 @@ eventOf e = record { domain = e .domain; call = e .call }
 abbrev pub runOf : Told → Run
 runOf t = record { store = t .store; booter = t .booter; homes = t .homes; events = map eventOf (t .exchanges) }
 
--- two runs shown by computing: every answer, every premise's test, every part of the conclusion
-pub record Shown (judging : Judging) (G : Group) (t t′ : Told) (tests : Tests) (parts : Parts) : Type 0 where
+-- two runs computed: every answer, every premise's test, every part of the conclusion
+pub record Computed (judging : Judging) (G : Group) (t t′ : Told) (tests : Tests) (parts : Parts) : Type 0 where
   pub answered : answersBy judging (startOf (runOf t)) (t .exchanges) ≡ expected (t .exchanges)
   pub answered′ : answersBy judging (startOf (runOf t′)) (t′ .exchanges) ≡ expected (t′ .exchanges)
   pub tested : testsBy judging G (runOf t) (runOf t′) ≡ tests
   pub compared : partsBy judging G (runOf t) (runOf t′) ≡ parts
 
+-- what is shown thereby: every call is answered as told, and the tests and parts are those of the judgement
+pub record Shown (G : Group) (t t′ : Told) (tests : Tests) (parts : Parts) : Type 0 where
+  pub answered : answers (startOf (runOf t)) (t .exchanges) ≡ expected (t .exchanges)
+  pub answered′ : answers (startOf (runOf t′)) (t′ .exchanges) ≡ expected (t′ .exchanges)
+  pub tested : testsBy judged G (runOf t) (runOf t′) ≡ tests
+  pub compared : partsBy judged G (runOf t) (runOf t′) ≡ parts
+
 -- what the search computes holds of the judgement
-pub by-computing : (G : Group) (t t′ : Told) (tests : Tests) (parts : Parts) → Shown searched G t t′ tests parts → Shown judged G t t′ tests parts
-by-computing G t t′ tests parts s = by-search (λ j. Shown j G t t′ tests parts) s
+pub by-computing : (G : Group) (t t′ : Told) (tests : Tests) (parts : Parts) → Computed searched G t t′ tests parts → Shown G t t′ tests parts
+by-computing G t t′ tests parts c =
+    let s = by-search (λ j. Computed j G t t′ tests parts) c in
+    record {
+      answered = answers-are (startOf (runOf t)) (boot-sound _ _ _) (t .exchanges) ∙ s .answered;
+      answered′ = answers-are (startOf (runOf t′)) (boot-sound _ _ _) (t′ .exchanges) ∙ s .answered′;
+      tested = s .tested;
+      compared = s .compared;
+    }
 
 -- some part of the conclusion differs
 abbrev pub differ : Parts → Bool
 differ p = not (p .answers && p .words && p .objects && p .domains)
 
 -- then the conclusion fails
-pub fails : {G : Group} {t t′ : Told} {tests : Tests} {parts : Parts} → Shown judged G t t′ tests parts → differ parts ≡ true
+pub fails : {G : Group} {t t′ : Told} {tests : Tests} {parts : Parts} → Shown G t t′ tests parts → differ parts ≡ true
     → Isolated G (runOf t) (runOf t′) → ⊥
 fails {G} {t} {t′} s h i =
     let e = sym (s .compared) ∙ parts-hold G (runOf t) (runOf t′) i in true≢false (sym h ∙ ap differ e)

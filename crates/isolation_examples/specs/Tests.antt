@@ -13,7 +13,7 @@ use Rattle.clists.specs.Clist.{listAt}
 use Rattle.calls.specs.Answers.{numberOf}
 use Rattle.calls.specs.View.{World, Judging, firstFailing}
 use Rattle.calls.specs.Rules.{wanted, presented, early}
-use Rattle.calls.specs.Step.{Result, stepBy, worldOf, answerOf}
+use Rattle.calls.specs.Step.{Result, uncheckedBy, worldOf, answerOf}
 use Rattle.calls.specs.Boot.{homeOf}
 use Rattle.cases.specs.Runs.{answersBy}
 use Rattle.calls.specs.declared.Refusal.{Refusal}
@@ -92,7 +92,7 @@ callTests true G w e r =
     }
 callTests false G w e r = record { slots = stateTest G w; held = true; lists = true; granted = grantedTest G e r }
 
--- what a run shows: its tests, the members' answers, and the last world
+-- what a run shows: its tests, the members' answers, and the last world; computed without check 3
 pub record Trace : Type 0 where
   pub tests : RunTests
   pub answers : List (List ℕ)
@@ -101,7 +101,7 @@ pub record Trace : Type 0 where
 unfoldable pub traceBy : Judging → Group → World → List Event → Trace
 traceBy judging G w [] = record { tests = lastTests G w; answers = []; last = w }
 traceBy judging G w (e ∷ es) =
-    let r = stepBy judging w (e .domain) (e .call) in
+    let r = uncheckedBy judging w (e .domain) (e .call) in
     let m = member G (e .domain) in
     let c = callTests m G w e r in
     let t = traceBy judging G (worldOf r) es in

@@ -1,17 +1,15 @@
 -- What the program writes, holding 201 bytes of a line and leaving out check 3, is what document 01 says.
 use Prim.Native.Nat.{ℕ}
 use mathlib.Core.Path.{_≡_, refl, _∙_, sym, ap}
-use mathlib.Core.Bool.{Bool, true, false, not, cond}
+use mathlib.Core.Bool.{Bool, true, false, cond}
 use mathlib.Core.List.{List, [], _∷_, _++_, foldl}
 use lib.Dec.{eqb}
-use lib.ListN.{length}
-use Rattle.bounded.specs.Bools.{or-unless}
 use Rattle.soundness.specs.Sound.{sound}
 use Rattle.soundness.specs.Laws.Estates.{empty-sound}
 use Rattle.calls.specs.View.{World}
-use Rattle.calls.specs.Step.{step, unchecked, admitted}
+use Rattle.calls.specs.Step.{step, unchecked}
 use Rattle.calls.specs.Boot.{boot}
-use Rattle.calls.specs.Laws.Unchecked.{step-unchecked}
+use Rattle.calls.specs.Laws.Unchecked.{sound-unchecked}
 use Rattle.calls.specs.Laws.Sound.{step-sound}
 use Rattle.calls.specs.Laws.Booted.{boot-sound}
 use Rattle.calls.specs.declared.Answer.{Answer}
@@ -24,17 +22,12 @@ use Rattle.stream.specs.Feed.{heldByte, onHeld, cut, joined}
 use Rattle.stream.specs.Held.{cut-run, cut-last}
 use Rattle.stream.specs.Pieces.{writtenFor, pieces-whole}
 
--- a sound state passes check 3
-admits : (w : World) → sound (w .state) ≡ true → admitted w ≡ true
-unfolding admitted
-admits w h = or-unless (not (eqb (length (w .words)) 8192)) (sound (w .state)) (λ e. h)
-
 -- on a sound state a line is answered the same without check 3
 reply-unchecked : (w : World) (l : Line) → sound (w .state) ≡ true → reply unchecked w l ≡ reply step w l
 unfolding reply
 reply-unchecked w Unreadable h = refl
 reply-unchecked w (Boot d homes) h = refl
-reply-unchecked w (Call d c) h = ap called (sym (step-unchecked w d c (admits w h)))
+reply-unchecked w (Call d c) h = ap called (sym (sound-unchecked w d c h))
 
 -- and leaves a sound state
 reply-sound : (w : World) (l : Line) → sound (w .state) ≡ true → sound (reply step w l .world .state) ≡ true

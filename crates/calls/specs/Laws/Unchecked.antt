@@ -4,6 +4,7 @@ use mathlib.Core.Path.{_≡_, refl, sym}
 use mathlib.Core.Bool.{Bool, true, false, not, _||_, true≢false}
 use lib.Dec.{eqb}
 use lib.ListN.{length}
+use Rattle.bounded.specs.Bools.{or-unless}
 use Rattle.soundness.specs.Sound.{sound}
 use Rattle.calls.specs.View.{World}
 use Rattle.calls.specs.Step.{stepBy, uncheckedBy, step, unchecked, refused, admitted}
@@ -20,6 +21,11 @@ module _ (w : World) (d : ℕ) (c : Call) where
       go true true p q e = rw q
       go true false p q e = absurd (true≢false (sym e))
       go false b p q e = rw p
+
+  -- on a sound state, whatever the store's length
+  pub sound-unchecked : sound (w .state) ≡ true → step w d c ≡ unchecked w d c
+  unfolding admitted
+  sound-unchecked h = step-unchecked (or-unless (not (eqb (length (w .words)) 8192)) (sound (w .state)) (λ e. h))
 
   -- a state that is not sound is refused, where the store has its length
   pub step-unsound : admitted w ≡ false → step w d c ≡ refused w Unsound
