@@ -1,4 +1,3 @@
-pub mod Slices
 pub mod Panel
 pub mod Changed
 pub mod Laws

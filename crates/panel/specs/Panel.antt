@@ -14,7 +14,7 @@ use Rattle.calls.specs.declared.Call.{Call}
 use Rattle.calls.specs.declared.Answer.{Answer}
 use Rattle.calls.specs.declared.Answer.the-variants.{Done, Refused}
 use Rattle.calls.specs.declared.Outcome.{Outcome}
-use Rattle.panel.specs.Slices.{words, values, cleared}
+use Rattle.slices.specs.Slices.{words, values, cleared}
 
 -- the image of the state, the bytes of the store, and the values
 pub record Slices : Type 0 where
@@ -49,10 +49,6 @@ toldBy s o ws = answeredAs (o .answer) s o ws
 abbrev pub isDone : Answer → Bool
 isDone (Done value) = true
 isDone (Refused why) = false
-
--- the refusal of a wrong length, 0 where there is none
-abbrev pub wrongLength : ℕ → ℕ → ℕ
-wrongLength store values = cond (eqb store 65536) (cond (eqb values 88) 0 13) 2
 
 -- 2 for the store's length; 13 for the values' length, or an image that does not serve; then what the call comes to
 unfoldable pub checkedBy : Bool → Slices → Result → Told

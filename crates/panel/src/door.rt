@@ -1,13 +1,9 @@
 // Any call on the three slices: the image of the state, the store's bytes, and the values that come back.
 use crate::Changed;
 use crate::changes::changed_by;
-use crate::store::STORE;
 use crate::store::WORDS;
 use crate::store::load;
 use crate::store::save;
-use crate::values::VALUES;
-use crate::values::put_values;
-use crate::values::refuse;
 use apply::unchecked;
 use boot::boot;
 use calls::Answer;
@@ -15,30 +11,17 @@ use calls::Call;
 use calls::Outcome;
 use calls::replies::refusal_number;
 use image::read_image;
-use image::sizes::STATE;
 use image::write_image;
+use slices::lengths::has_length;
+use slices::lengths::wrong_length;
+use slices::values::put_values;
+use slices::values::refuse;
 use state::State;
 ghost use mathlib.Core.Path.{_≡_};
 ghost use mathlib.Core.Bool.{cond};
-ghost use lib.Dec.{eqb};
-ghost use lib.ListN.{length};
-ghost use Rattle.image.specs.Sizes.{stateSize};
 ghost use Rattle.image.specs.Image.{written};
-ghost use Rattle.panel.specs.Panel.{slices, told, isDone, wrongLength, toldBy, called, booted};
+ghost use Rattle.panel.specs.Panel.{slices, told, isDone, toldBy, called, booted};
 ghost use Rattle.panel.specs.Laws.Concluded.{Ready};
-
-// 2 for the store's length, else 13 for the values' length, else 0.
-fn wrong_length(store: usize, values: usize) -> u64
-    ensures { λ r. ⌜ r ≡ wrongLength store values ⌝ }
-{
-    if store != STORE {
-        return 2;
-    }
-    if values != VALUES {
-        return 13;
-    }
-    0
-}
 
 // Whether the call is done.
 fn is_done(a: Answer) -> bool
@@ -102,13 +85,6 @@ pub fn call(image: &mut [u8], store: &mut [u8], values: &mut [u8], d: u64, call:
     load(&mut words, store);
     let outcome = unchecked(reading.state, &mut words, d, call);
     conclude(image, store, values, &words, changed_by(call), outcome)
-}
-
-// Whether the image has its length.
-fn has_length(image: &[u8]) -> bool
-    ensures { λ r. ⌜ r ≡ eqb (length (now (image .entry))) stateSize ⌝ }
-{
-    image.len() == STATE
 }
 
 // BT: of the image only its length counts.

@@ -10,7 +10,6 @@ pub mod domains;
 mod door;
 pub mod objects;
 mod store;
-mod values;
 
 // What a done call can have changed: the state or not, and a run of the store's words.
 pub struct Changed {

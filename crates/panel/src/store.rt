@@ -4,13 +4,10 @@ use image::numbers::word_at;
 ghost use mathlib.Core.Path.{_≡_};
 ghost use Prim.Native.Nat.{_≤_};
 ghost use lib.ListN.{length};
-ghost use Rattle.panel.specs.Slices.{words};
+ghost use Rattle.slices.specs.Slices.{words};
 ghost use Rattle.panel.specs.Laws.Saved.{Outside};
 
-// How many bytes the store takes.
-pub const STORE: usize = 65536;
-
-// How many words it has.
+// How many words the store has.
 pub const WORDS: usize = 8192;
 
 // The words of the store's bytes.

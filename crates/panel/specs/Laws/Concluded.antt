@@ -25,8 +25,8 @@ use Rattle.calls.specs.declared.Call.{Call}
 use Rattle.calls.specs.declared.Answer.the-variants.{Done, Refused}
 use Rattle.calls.specs.declared.Outcome.{Outcome}
 use Rattle.calls.specs.declared.Refusal.{Refusal}
-use Rattle.panel.specs.Slices.{words, values, cleared}
-use Rattle.panel.specs.Panel.{Slices, slices, Told, told, refusedBy, toldBy, isDone, wrongLength, checkedBy, called, booted}
+use Rattle.slices.specs.Slices.{words, values, filled, cleared, wrongLength}
+use Rattle.panel.specs.Panel.{Slices, slices, Told, told, refusedBy, toldBy, isDone, checkedBy, called, booted}
 use Rattle.panel.specs.Changed.{changedBy}
 use Rattle.panel.specs.Laws.Saved.{Outside}
 use Rattle.panel.specs.Laws.Changed.{run-within, state-left, words-left}
@@ -45,9 +45,9 @@ pub record Ready (s : Slices) (ws : List ℕ) (ch : Changed) (o : Outcome) : Typ
 -- done: the state's image where the state can have changed, the store, the values
 pub by-done : (s : Slices) (ws : List ℕ) (ch : Changed) (o : Outcome) (value : ℕ) (after : Slices) → Ready s ws ch o → o .answer ≡ Done value
     → after .image ≡ cond (ch .state && isDone (o .answer)) (written (s .image) (o .state)) (s .image) → after .store ≡ words .put ws
-    → after .values ≡ values .put (valuesFrom (Done value) (o .fields)) → told 0 after ≡ toldBy s o ws
-unfolding written
-by-done s ws ch o value after r a i t v = rw (a, t, v) (rw (i, a, eq-eqb _ stateSize (r .image-long)) (go (ch .state) refl))
+    → after .values ≡ filled (s .values) (valuesFrom (Done value) (o .fields)) → told 0 after ≡ toldBy s o ws
+unfolding written filled
+by-done s ws ch o value after r a i t v = rw (a, t, v, eq-eqb _ 88 (r .values-long)) (rw (i, a, eq-eqb _ stateSize (r .image-long)) (go (ch .state) refl))
   where
     go : (b : Bool) → ch .state ≡ b
         → told 0 (slices (cond (b && true) (state .put (o .state)) (s .image)) (words .put ws) (values .put (valuesFrom (Done value) (o .fields))))

@@ -10,7 +10,7 @@ use Rattle.bounded.specs.Bools.{same-or-not}
 use Rattle.bounded.specs.Fill.{tabulate, tabulate-at}
 use Rattle.codec.specs.Number.{number}
 use Rattle.codec.specs.Loop.{array-places}
-use Rattle.panel.specs.Slices.{words}
+use Rattle.slices.specs.Slices.{words}
 
 tabulate-length : (n : ℕ) (f : ℕ → ℕ) → length (tabulate n f) ≡ n
 tabulate-length ℕ.zero f = refl

@@ -9,7 +9,7 @@ use Rattle.calls.specs.Step.{Result}
 use Rattle.calls.specs.declared.Answer.{Answer}
 use Rattle.calls.specs.declared.Answer.the-variants.{Done, Refused}
 use Rattle.calls.specs.declared.Call.{Call}
-use Rattle.panel.specs.Slices.{cleared}
+use Rattle.slices.specs.Slices.{cleared}
 use Rattle.panel.specs.Panel.{Slices, slices, Told, refusedBy, answeredAs, toldBy, checkedBy, called, booted}
 
 -- nothing but the values is touched

@@ -9,7 +9,7 @@ use Rattle.codec.specs.Number.{number}
 use Rattle.codec.specs.Array.{oks}
 use Rattle.codec.specs.Laid.{lay}
 use Rattle.codec.specs.Anew.{Outside as OutsideOf, Anew, anew-none, anew-more, anew-all}
-use Rattle.panel.specs.Slices.{words}
+use Rattle.slices.specs.Slices.{words}
 
 -- any bytes are words
 oks-words : (k : ℕ) (bs : List ℕ) → oks (number 8) k bs ≡ true

@@ -12,7 +12,7 @@ conclude-spec =
     (λ c κs. search needs)
     (λ c. search needs)
     (λ c κs. let r = c .before .before .before .before .before .before .before .before .before .before .before .before .before .before .before .before .pre in (r .store-long, r .words-long, r .within, r .outside))
-    (λ c κs. c .before .before .before .before .before .before .before .before .before .before .before .before .before .before .before .before .before .before .before .before .pre .values-long)
+    (λ c κs. search needs)
     (λ c. search needs)
     (λ c. search needs)
     (λ c. search needs)

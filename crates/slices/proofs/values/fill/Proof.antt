@@ -1,8 +1,8 @@
 use borrow.Author.Needs.{needs}
 use Prim.Native.Nat.{_-_}
-use Rattle.panel.specs.Laws.Valued.{Valuing, valuing-none, valuing-more, valued}
-use Rattle.panel.proofs.values.put_values.Statement.{statement}
-use Rattle.panel.proofs.values.put_values.Tie as tie
+use Rattle.slices.specs.Laws.Valued.{Valuing, valuing-none, valuing-more, valued}
+use Rattle.slices.proofs.values.fill.Statement.{statement}
+use Rattle.slices.proofs.values.fill.Tie as tie
 
 abbrev Inv-loop : tie.InvT-loop
 Inv-loop bytes₀ value f i₀ bytes i = Valuing value f bytes₀ bytes i
@@ -10,8 +10,8 @@ Inv-loop bytes₀ value f i₀ bytes i = Valuing value f bytes₀ bytes i
 abbrev μ-loop : tie.MeasureT-loop
 μ-loop bytes₀ value f i₀ bytes i = 11 - i
 
-pub put-values-spec : {M : Type 1} → statement M
-put-values-spec =
+pub fill-spec : {M : Type 1} → statement M
+fill-spec =
     tie.close
     (tie.spec
     Inv-loop

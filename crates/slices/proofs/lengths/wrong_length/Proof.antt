@@ -1,6 +1,6 @@
 use borrow.Author.Tests.{eq-eqb, ne-eqb}
-use Rattle.panel.proofs.door.wrong_length.Statement.{statement}
-use Rattle.panel.proofs.door.wrong_length.Tie as tie
+use Rattle.slices.proofs.lengths.wrong_length.Statement.{statement}
+use Rattle.slices.proofs.lengths.wrong_length.Tie as tie
 
 pub wrong-length-spec : {M : Type 1} → statement M
 wrong-length-spec =

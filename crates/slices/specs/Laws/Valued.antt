@@ -14,7 +14,7 @@ use Rattle.codec.specs.Loop.{Laying, laying-none, laying-more}
 use Rattle.calls.specs.Answers.{valuesFrom}
 use Rattle.calls.specs.declared.Answer.the-variants.{Done}
 use Rattle.calls.specs.declared.Fields.{Fields}
-use Rattle.panel.specs.Slices.{values}
+use Rattle.slices.specs.Slices.{values}
 
 -- value i of a done call; 0 behind the last
 abbrev pub valueAt : ℕ → Fields → ℕ → ℕ

@@ -1,7 +1,7 @@
 use borrow.Author.Needs.{needs}
-use Rattle.panel.specs.Laws.Valued.{value-first, value-none, value-past, value-there}
-use Rattle.panel.proofs.values.value_at.Statement.{statement}
-use Rattle.panel.proofs.values.value_at.Tie as tie
+use Rattle.slices.specs.Laws.Valued.{value-first, value-none, value-past, value-there}
+use Rattle.slices.proofs.values.value_at.Statement.{statement}
+use Rattle.slices.proofs.values.value_at.Tie as tie
 
 pub value-at-spec : {M : Type 1} → statement M
 value-at-spec =

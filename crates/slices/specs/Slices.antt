@@ -16,6 +16,14 @@ words = array 8192 (number 8) 0
 unfoldable pub values : Codec 88 (List ℕ)
 values = array 11 (number 8) 0
 
--- the values of a refusal: all zero; a slice of another length is not touched
+-- a slice of the values' length is written over; another is not touched
+unfoldable pub filled : List ℕ → List ℕ → List ℕ
+filled bytes vs = cond (eqb (length bytes) 88) (values .put vs) bytes
+
+-- the values of a refusal: all zero
 unfoldable pub cleared : List ℕ → List ℕ
-cleared bytes = cond (eqb (length bytes) 88) (values .put (0 ∷ [])) bytes
+cleared bytes = filled bytes (0 ∷ [])
+
+-- the refusal of a wrong length, 0 where there is none
+abbrev pub wrongLength : ℕ → ℕ → ℕ
+wrongLength store values = cond (eqb store 65536) (cond (eqb values 88) 0 13) 2

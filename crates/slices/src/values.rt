@@ -7,7 +7,7 @@ ghost use Prim.Native.Nat.{_<_};
 ghost use lib.ListN.{length, getD};
 ghost use Rattle.calls.specs.Answers.{valuesFrom};
 ghost use Rattle.calls.specs.declared.Answer.the-variants.{Done};
-ghost use Rattle.panel.specs.Slices.{values, cleared};
+ghost use Rattle.slices.specs.Slices.{values, filled, cleared};
 
 // How many bytes the values take.
 pub const VALUES: usize = 88;
@@ -29,8 +29,8 @@ fn value_at(value: u64, f: Fields, i: usize) -> u64
     f.values[i]
 }
 
-// The values of a done call.
-pub fn put_values(bytes: &mut [u8], value: u64, f: Fields)
+// The values of a done call, over a slice of their length.
+fn fill(bytes: &mut [u8], value: u64, f: Fields)
     requires { ⌜ length (now bytes) ≡ 88 ⌝ }
     ensures { λ _. ⌜ now (bytes .exit) ≡ values .put (valuesFrom (Done value) f) ⌝ }
 {
@@ -42,12 +42,20 @@ pub fn put_values(bytes: &mut [u8], value: u64, f: Fields)
     }
 }
 
+// The values of a done call; a slice of another length is not touched.
+pub fn put_values(bytes: &mut [u8], value: u64, f: Fields)
+    ensures { λ _. ⌜ now (bytes .exit) ≡ filled (now (bytes .entry)) (valuesFrom (Done value) f) ⌝ }
+{
+    if bytes.len() != VALUES {
+        return;
+    }
+    fill(bytes, value, f);
+}
+
 // A refusal by a number: the values are cleared where they have their length.
 pub fn refuse(bytes: &mut [u8], number: u64) -> u64
     ensures { λ r. ⌜ (r ≡ number) × (now (bytes .exit) ≡ cleared (now (bytes .entry))) ⌝ }
 {
-    if bytes.len() == VALUES {
-        put_values(bytes, 0, no_fields());
-    }
+    put_values(bytes, 0, no_fields());
     number
 }
