@@ -1,15 +1,13 @@
 -- Where a C function returns: one law for each place, whatever call it is.
 use Prim.Native.Nat.{ℕ, _<_, _≤_}
 use mathlib.Core.Path.{_≡_, refl, sym, ap, _∙_}
-use mathlib.Core.Bool.{Bool, true, false, cond, not, _&&_, _||_, true≢false}
+use mathlib.Core.Bool.{Bool, true, false, cond, _&&_, true≢false}
 use mathlib.Core.List.{List}
 use lib.Dec.{eqb}
 use mathlib.Core.Logic.{_⊎_, inl, inr}
 use native.Mathlib.Omega.{arith}
 use lib.ListN.{length, getD}
 use borrow.Author.Tests.{eq-eqb, eqb-true}
-use Rattle.state.specs.declared.State.{State}
-use Rattle.soundness.specs.Sound.{sound}
 use Rattle.codec.specs.Codec.{Bytes}
 use Rattle.codec.specs.Number.{number}
 use Rattle.codec.specs.Array.{gets-length}
@@ -18,8 +16,8 @@ use Rattle.image.specs.Layout.{state}
 use Rattle.image.specs.Image.{reading, written, readable-length, readable-sound, writes-back}
 use Rattle.calls.specs.Answers.{refusalNumber, valuesFrom}
 use Rattle.calls.specs.Boot.{boot}
-use Rattle.calls.specs.Step.{Result, world, result, step, unchecked, admitted}
-use Rattle.calls.specs.Laws.Unchecked.{step-unchecked}
+use Rattle.calls.specs.Step.{Result, world, result, step, unchecked}
+use Rattle.calls.specs.Laws.Unchecked.{sound-unchecked}
 use Rattle.calls.specs.Laws.Sound.{words-kept}
 use Rattle.calls.specs.declared.Call.{Call}
 use Rattle.calls.specs.declared.Answer.the-variants.{Done, Refused}
@@ -100,21 +98,12 @@ module _ (serves : Bool) (s : Slices) (r : Result) where
   unfolding checkedBy
   by-result l m h e = rw (eq-eqb _ 65536 l, eq-eqb _ 88 m, h) e
 
--- check 3 cannot fail: what reads is sound
-sound-admitted : (s : State) (ws : List ℕ) → sound s ≡ true → admitted (world s ws) ≡ true
-unfolding admitted
-sound-admitted s ws h = rw h (either (eqb (length ws) 8192))
-  where
-    either : (b : Bool) → (not b || true) ≡ true
-    either true = refl
-    either false = refl
-
 -- a call on an image that reads: `unchecked` makes what `step` says, and leaves what it can have changed ready to be written
 module _ (image store vs : List ℕ) (d : ℕ) (c : Call) (o : Outcome) (ws : List ℕ) (bytes : Bytes image) (store-long : length store ≡ 65536)
     (values-long : length vs ≡ 88) (read : reading image .readable ≡ true)
     (made : result o ws ≡ unchecked (world (reading image .state) (words .get store)) d c) where
   is-step : step (world (reading image .state) (words .get store)) d c ≡ result o ws
-  is-step = step-unchecked _ d c (sound-admitted _ _ (readable-sound image read)) ∙ sym made
+  is-step = sound-unchecked _ d c (readable-sound image read) ∙ sym made
 
   got-long : length (words .get store) ≡ 8192
   unfolding words
