@@ -1,11 +1,11 @@
 // The accesses as C functions: RD, WR, EX and LK.
-use crate::door::call;
+use byte_calls::call;
 use calls::Access;
 use calls::Call;
 ghost use mathlib.Core.Path.{_≡_};
 ghost use Rattle.calls.specs.declared.Call.the-variants.{OnStore};
 ghost use Rattle.calls.specs.declared.Access.the-variants.{Read, Write, Execute, Lookup};
-ghost use Rattle.panel.specs.Panel.{slices, told, called};
+ghost use Rattle.byte_calls.specs.Called.{slices, told, called};
 
 // RD: the word at an address.
 #[no_mangle]

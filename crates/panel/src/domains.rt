@@ -1,12 +1,12 @@
 // The calls on the caller's domain as C functions: IN, RM, GT, LO, CA and RT.
-use crate::door::call;
+use byte_calls::call;
 use calls::Call;
 use calls::DomainCall;
 use calls::Presented;
 ghost use mathlib.Core.Path.{_≡_};
 ghost use Rattle.calls.specs.declared.Call.the-variants.{OnDomain};
 ghost use Rattle.calls.specs.declared.DomainCall.the-variants.{Insert, Remove, Get, Lock, PdxCall, PdxReturn};
-ghost use Rattle.panel.specs.Panel.{slices, told, called};
+ghost use Rattle.byte_calls.specs.Called.{slices, told, called};
 
 // IN: a Clist capability becomes a slot.
 #[no_mangle]

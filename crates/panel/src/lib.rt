@@ -1,22 +1,12 @@
 // The calls as C functions on numbers and byte slices, for include/reshqobi.h.
-use crate::door::boot_call;
+use byte_calls::boot_call;
 ghost use mathlib.Core.Path.{_≡_};
 ghost use mathlib.Core.List.{[], _∷_};
-ghost use Rattle.panel.specs.Panel.{slices, told, booted};
+ghost use Rattle.byte_calls.specs.Called.{slices, told, booted};
 
 pub mod accesses;
-mod changes;
 pub mod domains;
-mod door;
 pub mod objects;
-mod store;
-
-// What a done call can have changed: the state or not, and a run of the store's words.
-pub struct Changed {
-    pub state: bool,
-    pub from: usize,
-    pub to: usize,
-}
 
 // BT: the first state and store.
 #[no_mangle]

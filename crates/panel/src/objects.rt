@@ -1,5 +1,5 @@
 // The calls on objects as C functions: CR, DL, AP, DP and RG.
-use crate::door::call;
+use byte_calls::call;
 use calls::Call;
 use calls::Entries;
 use calls::ObjectCall;
@@ -7,7 +7,7 @@ use calls::Presented;
 ghost use mathlib.Core.Path.{_≡_};
 ghost use Rattle.calls.specs.declared.Call.the-variants.{OnObject};
 ghost use Rattle.calls.specs.declared.ObjectCall.the-variants.{Create, Delete, AddPassword, DropPassword, Register};
-ghost use Rattle.panel.specs.Panel.{slices, told, called};
+ghost use Rattle.byte_calls.specs.Called.{slices, told, called};
 
 // CR: a new object in the caller's estate.
 #[no_mangle]

@@ -1,0 +1,35 @@
+// The store's bytes as words, and back.
+use image::numbers::put_word;
+use image::numbers::word_at;
+ghost use mathlib.Core.Path.{_≡_};
+ghost use Prim.Native.Nat.{_≤_};
+ghost use lib.ListN.{length};
+ghost use Rattle.slices.specs.Slices.{words};
+ghost use Rattle.byte_calls.specs.Laws.Saved.{Outside};
+
+// How many words the store has.
+pub const WORDS: usize = 8192;
+
+// The words of the store's bytes.
+pub fn load(store: &mut [u64], bytes: &[u8])
+    requires { ⌜ (length (now store) ≡ 8192) × (length (now bytes) ≡ 65536) ⌝ }
+    ensures { λ _. ⌜ now (store .exit) ≡ words .get (now (bytes .entry)) ⌝ }
+{
+    let mut i = 0;
+    while i < WORDS {
+        store[i] = word_at(bytes, 8 * i);
+        i += 1;
+    }
+}
+
+// The words of a run written to the store's bytes; outside it the bytes have them already.
+pub fn save(bytes: &mut [u8], store: &[u64], from: usize, to: usize)
+    requires { ⌜ (length (now bytes) ≡ 65536) × (length (now store) ≡ 8192) × (to ≤ 8192) × Outside from to (now bytes) (now store) ⌝ }
+    ensures { λ _. ⌜ now (bytes .exit) ≡ words .put (now (store .entry)) ⌝ }
+{
+    let mut i = from;
+    while i < to {
+        put_word(bytes, 8 * i, store[i]);
+        i += 1;
+    }
+}

@@ -1,3 +1,0 @@
-pub mod Panel
-pub mod Changed
-pub mod Laws
