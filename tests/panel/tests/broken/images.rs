@@ -3,7 +3,13 @@
 use super::*;
 use refmonitor::image::decode;
 
-pub const FAULTS: [Fault; 9] = [
+/// The words of page 1's second password and of its registration.
+fn second_and_registered(slices: &Slices) -> [&[u8]; 2] {
+    let object = &slices.image.bytes()[64..128];
+    [&object[11..19], &object[38..46]]
+}
+
+pub const FAULTS: [Fault; 10] = [
     ("every image reads", changed_bytes, |s, d, c| {
         match real(s, d, c) {
             13 => 0,
@@ -15,6 +21,14 @@ pub const FAULTS: [Fault; 9] = [
         changed_bytes,
         |s, d, c| match decode(s.image.bytes()) {
             None if s.image.bytes()[2048] > 127 => 7,
+            _ => real(s, d, c),
+        },
+    ),
+    (
+        "a registration has an ordinary password, and reads",
+        changed_bytes,
+        |s, d, c| match second_and_registered(s) {
+            [second, registered] if second == registered => 7,
             _ => real(s, d, c),
         },
     ),
