@@ -24,6 +24,7 @@ use Rattle.calls.specs.declared.Answer.the-variants.{Done, Refused}
 use Rattle.calls.specs.declared.Outcome.{Outcome}
 use Rattle.calls.specs.declared.Refusal.{Refusal}
 use Rattle.slices.specs.Slices.{words, values, filled, cleared, wrongLength}
+use Rattle.slices.specs.Laws.Valued.{filled-whole}
 use Rattle.byte_calls.specs.Called.{Slices, slices, Told, told, refusedBy, toldBy, isDone, checkedBy, called, booted}
 use Rattle.byte_calls.specs.Changed.{changedBy}
 use Rattle.byte_calls.specs.Laws.Saved.{Outside}
@@ -44,8 +45,8 @@ pub record Ready (s : Slices) (ws : List ℕ) (ch : Changed) (o : Outcome) : Typ
 pub by-done : (s : Slices) (ws : List ℕ) (ch : Changed) (o : Outcome) (value : ℕ) (after : Slices) → Ready s ws ch o → o .answer ≡ Done value
     → after .image ≡ cond (ch .state && isDone (o .answer)) (written (s .image) (o .state)) (s .image) → after .store ≡ words .put ws
     → after .values ≡ filled (s .values) (valuesFrom (Done value) (o .fields)) → told 0 after ≡ toldBy s o ws
-unfolding written filled
-by-done s ws ch o value after r a i t v = rw (a, t, v, eq-eqb _ 88 (r .values-long)) (rw (i, a, eq-eqb _ stateSize (r .image-long)) (go (ch .state) refl))
+unfolding written
+by-done s ws ch o value after r a i t v = rw (a, t, v, filled-whole (s .values) _ (r .values-long)) (rw (i, a, eq-eqb _ stateSize (r .image-long)) (go (ch .state) refl))
   where
     go : (b : Bool) → ch .state ≡ b
         → told 0 (slices (cond (b && true) (state .put (o .state)) (s .image)) (words .put ws) (values .put (valuesFrom (Done value) (o .fields))))

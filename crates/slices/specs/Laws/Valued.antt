@@ -14,7 +14,7 @@ use Rattle.codec.specs.Loop.{Laying, laying-none, laying-more}
 use Rattle.calls.specs.Answers.{valuesFrom}
 use Rattle.calls.specs.declared.Answer.the-variants.{Done}
 use Rattle.calls.specs.declared.Fields.{Fields}
-use Rattle.slices.specs.Slices.{values}
+use Rattle.slices.specs.Slices.{values, filled}
 
 -- value i of a done call; 0 behind the last
 abbrev pub valueAt : ℕ → Fields → ℕ → ℕ
@@ -39,6 +39,16 @@ module _ (value : ℕ) (f : Fields) (old : List ℕ) where
       let e : i ≡ 11 = omega arith in
       let w : new ≡ lay old 0 (runs 11 (λ j. number 8 .put (valueAt value f j))) = rw e at (s .so-far) in
       w ∙ lay-all (values .put (valuesFrom (Done value) f)) old (l ∙ sym (values .put-length (valuesFrom (Done value) f)))
+
+-- over a slice of their length, and over another
+module _ (bytes vs : List ℕ) where
+  pub filled-whole : length bytes ≡ 88 → filled bytes vs ≡ values .put vs
+  unfolding filled
+  filled-whole l = rw (eq-eqb _ 88 l)
+
+  pub filled-not : (length bytes ≡ 88 → ⊥) → bytes ≡ filled bytes vs
+  unfolding filled
+  filled-not l = rw (ne-eqb _ 88 l)
 
 -- the value alone, or the fields
 take-past : (n : ℕ) (l : List ℕ) (i : ℕ) → n ≤ i → 0 ≡ getD (take n l) i 0
