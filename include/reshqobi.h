@@ -72,14 +72,14 @@ uint64_t reshqobi_cr(RESHQOBI_SLICES, uint64_t domain, uint64_t page, uint64_t p
 /* DL: the object goes. Refusals 2, 13, 4, 5, 7. */
 uint64_t reshqobi_dl(RESHQOBI_SLICES, uint64_t domain, uint64_t base);
 
-/* AP: a password more, in a mode. Refusals 2, 13, 4, 5, 7, 10, 11. */
+/* AP: a password more, in a mode. Refusals 2, 13, 4, 5, 6, 7, 10, 11. */
 uint64_t reshqobi_ap(RESHQOBI_SLICES, uint64_t domain, uint64_t base, uint64_t password, uint64_t mode);
 
 /* DP: a password less, or the registration that has it. Refusals 2, 13, 4, 5, 7, 12. */
 uint64_t reshqobi_dp(RESHQOBI_SLICES, uint64_t domain, uint64_t base, uint64_t password);
 
 /* RG: the object becomes a procedure with 1 to 4 entries; entries past their number are not looked at.
- * Refusals 2, 13, 4, 5, 7, 8, 10, 11. */
+ * Refusals 2, 13, 4, 5, 6, 7, 8, 10, 11. */
 uint64_t reshqobi_rg(RESHQOBI_SLICES, uint64_t domain, uint64_t base, uint64_t password, uint64_t list_page,
                      uint64_t list_password, uint64_t entries, uint64_t entry0, uint64_t entry1, uint64_t entry2,
                      uint64_t entry3);

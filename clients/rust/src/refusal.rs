@@ -53,7 +53,9 @@ impl fmt::Display for Refusal {
             Refusal::StoreLength => "the store has not 8,192 words",
             Refusal::NoDomain => "the domain is above 3",
             Refusal::OutOfRange => "an argument is out of its range",
-            Refusal::Locked => "the slot is locked, or the whole lock is set (IN, RM, CA)",
+            Refusal::Locked => {
+                "the slot is locked (IN, RM), or the whole lock is set (IN, RM, CA, AP, RG)"
+            }
             Refusal::NotGranted => {
                 "the rights are not granted, or the presented capability opens nothing; \
                  a missing object is no different"

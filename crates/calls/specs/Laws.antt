@@ -5,6 +5,7 @@ pub mod Order
 pub mod Passed
 pub mod Levels
 pub mod Granted
+pub mod Locks
 pub mod Searched
 pub mod Fit
 pub mod Sound

@@ -6,6 +6,8 @@ pub mod Rule
 pub mod Rules
 pub mod Step
 pub mod Authority
+pub mod Locks
+pub mod Runs
 pub mod Parts
 pub mod Boot
 pub mod Laws

@@ -1,6 +1,6 @@
 -- What a call says of itself: document 01, "In checking order". What calls share stands in a constructor here; Rules.antt has the calls.
 use Prim.Native.Nat.{ℕ}
-use mathlib.Core.Bool.{Bool, true}
+use mathlib.Core.Bool.{Bool, true, not}
 use mathlib.Core.List.{List, []}
 use mathlib.Core.Option.{Option, none}
 use lib.Dec.{ltb}
@@ -53,10 +53,14 @@ says range unlocked want presents rest value fields changes touch =
       touch = touch;
     }
 
--- no lock stops the call; it has no value; it reports no fields
+-- no lock stops the call; the whole lock does
 abbrev pub always : Frame → Bool
 always f = true
 
+abbrev pub unlessWhole : Frame → Bool
+unlessWhole f = not (f .whole)
+
+-- it has no value; it reports no fields
 abbrev pub valueless : View → ℕ
 valueless v = 0
 
@@ -75,9 +79,9 @@ abbrev pub access : Bool → ℕ → ℕ → (View → ℕ) → List Change → 
 access range a r value changes touch = says range always (rights (Address a) r) none (λ d v. []) value untold (λ d v. changes) touch
 
 -- a call on the object with a base; where no object has that base, nothing is granted
-abbrev pub onObject : Bool → ℕ → ℕ → Option Presented → (Object → List Check) → (Object → Object) → Rule
-onObject range b r presents rest after =
-    says range always (rights (Base b) r) presents (λ d v. rest (objectOf (v .found))) valueless untold
+abbrev pub onObject : Bool → (Frame → Bool) → ℕ → ℕ → Option Presented → (Object → List Check) → (Object → Object) → Rule
+onObject range unlocked b r presents rest after =
+    says range unlocked (rights (Base b) r) presents (λ d v. rest (objectOf (v .found))) valueless untold
     (λ d v. becomes b v (after (objectOf (v .found)))) (touchesObject b)
 
 -- a call on the slots and locks of the caller's frame

@@ -14,7 +14,7 @@ use Rattle.judge.specs.declared.Target.the-variants.{Address}
 use Rattle.calls.specs.View.{Want, nothing, rights, World, Judging, View, Check, check, search, passes, isSome, objectOf, wordOf, pairOf}
 use Rattle.calls.specs.Arguments.{entriesAll, runFree, isEntry}
 use Rattle.calls.specs.Changes.{frameFields, Change, word, zeros, estate, domain, capability, registration, entered}
-use Rattle.calls.specs.Rule.{Touch, touchesNothing, touchesWord, touchesSlots, Rule, says, always, valueless, untold, inStore, isPage, access, onObject, onFrame}
+use Rattle.calls.specs.Rule.{Touch, touchesNothing, touchesWord, touchesSlots, Rule, says, always, unlessWhole, valueless, untold, inStore, isPage, access, onObject, onFrame}
 use Rattle.calls.specs.declared.Call.{Call}
 use Rattle.calls.specs.declared.Call.the-variants.{OnStore, OnObject, OnDomain}
 use Rattle.calls.specs.declared.Access.{Access}
@@ -46,18 +46,19 @@ objectRule (Create p n k) =
     valueless untold
     (λ d v. estate d (withObject (v .estate) (freePlace (v .estate)) (newObject p n k)) ∷ zeros (64 * p) (64 * n) ∷ []) touchesNothing
 -- DL: the object goes, its words stay
-objectRule (Delete b) = onObject (isPage b) b destroy none (λ o. []) (λ o. freeObject)
--- AP: a password more
+objectRule (Delete b) = onObject (isPage b) always b destroy none (λ o. []) (λ o. freeObject)
+-- AP: a password more; the whole lock stops it (document 02, T-03)
 objectRule (AddPassword b k m) =
-    onObject (isPage b && not (eqb k 0) && legal m) b owner none
+    onObject (isPage b && not (eqb k 0) && legal m) unlessWhole b owner none
     (λ o. check HasPassword (not (hasPassword o k)) ∷ check Full (ltb (freePasswordPlace o) 4) ∷ [])
     (λ o. addPassword o k m)
 -- DP: a password goes, or the registration that has it
-objectRule (DropPassword b k) = onObject (isPage b) b owner none (λ o. check Missing (hasPassword o k) ∷ []) (λ o. dropPassword o k)
--- RG: the object becomes a procedure, with 1 to 4 entries inside it and a Clist capability that passes rule 1
+objectRule (DropPassword b k) = onObject (isPage b) always b owner none (λ o. check Missing (hasPassword o k) ∷ []) (λ o. dropPassword o k)
+-- RG: the object becomes a procedure, with 1 to 4 entries inside it and a Clist capability that passes rule 1; the whole lock stops it
+-- (document 02, T-03)
 objectRule (Register b k l es) =
-    onObject (isPage b && not (eqb k 0) && isPage (l .page) && ltb 0 (es .count) && leb (es .count) 4 && entriesAll inStore es) b owner
-    (some l)
+    onObject (isPage b && not (eqb k 0) && isPage (l .page) && ltb 0 (es .count) && leb (es .count) 4 && entriesAll inStore es) unlessWhole b
+    owner (some l)
     (λ o. check NotEntry (entriesAll (λ a. covers o (a / 64)) es)
     ∷ check HasPassword (not (hasPassword o k))
     ∷ check Full (eqb (o .registration .password) 0)
@@ -66,7 +67,7 @@ objectRule (Register b k l es) =
 
 -- neither a lock before the slot nor the whole lock
 abbrev unlockedFrom : ℕ → Frame → Bool
-unlockedFrom i f = leb (f .locked) i && not (f .whole)
+unlockedFrom i f = leb (f .locked) i && unlessWhole f
 
 abbrev domainRule : DomainCall → Rule
 -- IN: a capability that passes rule 1 becomes slot i
@@ -83,7 +84,7 @@ domainRule (Lock i) =
     onFrame (ltb i 8 || eqb i 255) always none (λ f. check Missing (eqb i 255 || ltb i (f .count)) ∷ []) (λ f. lockSlot f i) touchesNothing
 -- CA, with choice 0 (merge) or 1 (empty): the domain is saved, and the registered Clist comes in; the value is the entry
 domainRule (PdxCall a ch) =
-    says (inStore a && ltb ch 2) (λ f. not (f .whole)) (rights (Address a) pdx) none
+    says (inStore a && ltb ch 2) unlessWhole (rights (Address a) pdx) none
     (λ d v. check NotEntry (isEntry (objectOf (v .found)) a)
     ∷ check Full (not (eqb ch 0) || ltb (v .domain .active .count) 8)
     ∷ check Full (ltb (v .domain .depth) 4)

@@ -11,8 +11,9 @@ use Rattle.state.specs.declared.Domain.{Domain}
 use Rattle.calls.specs.Answers.{numberOf}
 use Rattle.calls.specs.View.{World}
 use Rattle.calls.specs.Boot.{homeOf}
+use Rattle.calls.specs.Runs.{final}
 use Rattle.isolation.specs.Group.{Group, member, insidePage, insideAddress}
-use Rattle.isolation.specs.Runs.{Run, bootResult, startOf, final, answers, membersCalls}
+use Rattle.isolation.specs.Runs.{Run, bootResult, startOf, answers, membersCalls}
 use Rattle.isolation.specs.Premises.{Premises}
 
 -- the same slots in use, in order, and the same locks

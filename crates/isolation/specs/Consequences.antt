@@ -23,13 +23,14 @@ use Rattle.calls.specs.Rule.{Touch, touchesNothing, touchesWord, touchesObject,
 use Rattle.calls.specs.Rules.{touched, presented, early, checks}
 use Rattle.calls.specs.Step.{worldOf, step}
 use Rattle.calls.specs.Boot.{homeOf}
+use Rattle.calls.specs.Runs.{Event, resultOf}
 use Rattle.calls.specs.Laws.Order.{done-hold}
 use Rattle.calls.specs.Laws.Booted.{boot-sound}
 use Rattle.calls.specs.Laws.Sound.{step-sound}
 use Rattle.calls.specs.declared.Call.{Call}
 use Rattle.calls.specs.declared.Presented.{Presented}
 use Rattle.isolation.specs.Group.{Group, member}
-use Rattle.isolation.specs.Runs.{Event, Run, bootResult, startOf, resultOf, membersOnly, membersCalls}
+use Rattle.isolation.specs.Runs.{Run, bootResult, startOf, membersOnly, membersCalls}
 use Rattle.isolation.specs.Premises.{staysInside, HeldInside, touchesInside, changesInside}
 use Rattle.isolation.specs.Claim.{Isolated}
 use Rattle.isolation.specs.Members.{member-below}

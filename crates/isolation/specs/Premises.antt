@@ -14,10 +14,11 @@ use Rattle.calls.specs.View.{Want, nothing, rights, World, firstFailing}
 use Rattle.calls.specs.Rule.{Touch, touchesNothing, touchesWord, touchesObject, touchesSlots}
 use Rattle.calls.specs.Rules.{touched, wanted, presented, early}
 use Rattle.calls.specs.Step.{worldOf}
+use Rattle.calls.specs.Runs.{Event, resultOf}
 use Rattle.calls.specs.declared.Call.{Call}
 use Rattle.calls.specs.declared.Presented.{Presented}
 use Rattle.isolation.specs.Group.{Group, member, insidePage, insideAddress}
-use Rattle.isolation.specs.Runs.{Event, Run, startOf, resultOf}
+use Rattle.isolation.specs.Runs.{Run, startOf}
 
 -- a capability is true for no outside object: its page is inside, or no object with that base has its password
 unfoldable pub staysInside : Group → Table → ℕ → ℕ → Bool

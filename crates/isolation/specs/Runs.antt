@@ -5,20 +5,16 @@ use mathlib.Core.List.{List, [], _∷_, map}
 use lib.Dec.{ltb}
 use Rattle.calls.specs.Arguments.{entryOf}
 use Rattle.calls.specs.View.{World}
-use Rattle.calls.specs.Step.{Result, step, worldOf}
+use Rattle.calls.specs.Step.{Result, worldOf}
 use Rattle.calls.specs.Boot.{boot}
 use Rattle.calls.specs.Step.{answerOf}
+use Rattle.calls.specs.Runs.{Event, resultOf}
 use Rattle.calls.specs.declared.Call.{Call}
 use Rattle.calls.specs.declared.Call.the-variants.{OnStore, OnObject, OnDomain}
 use Rattle.calls.specs.declared.ObjectCall.{ObjectCall}
 use Rattle.calls.specs.declared.ObjectCall.the-variants.{Create, Delete, AddPassword, DropPassword, Register}
 use Rattle.calls.specs.declared.Entries.{Entries}
 use Rattle.isolation.specs.Group.{Group, member}
-
--- a call by a domain
-pub record Event : Type 0 where
-  pub domain : ℕ
-  pub call : Call
 
 -- a run: a boot on any store, then any calls by any domains. Claim.antt asks that the boot is answered 0; so the store has 8,192 words
 pub record Run : Type 0 where
@@ -32,14 +28,6 @@ bootResult r = boot (r .store) (r .booter) (r .homes)
 
 abbrev pub startOf : Run → World
 startOf r = worldOf (bootResult r)
-
--- a call works on the world that the one before it left
-abbrev pub resultOf : World → Event → Result
-resultOf w e = step w (e .domain) (e .call)
-
-unfoldable pub final : World → List Event → World
-final w [] = w
-final w (e ∷ es) = final (worldOf (resultOf w e)) es
 
 -- what the members are answered, in order: of each call the number, then the value or the fields of a done GT
 unfoldable pub answers : Group → World → List Event → List (List ℕ)

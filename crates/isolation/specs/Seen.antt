@@ -30,9 +30,9 @@ use Rattle.judge.specs.declared.Judgement.{Judgement}
 use Rattle.judge.specs.declared.Judgement.the-variants.{Granted, Refused}
 use Rattle.calls.specs.View.{Want, nothing, rights, World, firstFailing, pageOf, foundBy, search, passes}
 use Rattle.calls.specs.Rules.{wanted, presented, early, view}
+use Rattle.calls.specs.Runs.{Event}
 use Rattle.calls.specs.declared.Presented.{Presented}
 use Rattle.isolation.specs.Group.{Group, member, insidePage}
-use Rattle.isolation.specs.Runs.{Event}
 use Rattle.isolation.specs.Premises.{staysInside, HeldInside, FrameInside, ListsInside, wants, MemberCall}
 use Rattle.isolation.specs.Part.{tablePart, wordsPart, part, estate-in, domain-in, word-in, words-length, based-in, covering-in, based-out, covering-out}
 

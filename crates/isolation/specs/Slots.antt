@@ -11,10 +11,11 @@ use mathlib.Core.List.{List, [], _∷_}
 use Rattle.soundness.specs.Sound.{sound}
 use Rattle.calls.specs.View.{World}
 use Rattle.calls.specs.Step.{worldOf}
+use Rattle.calls.specs.Runs.{Event, resultOf}
 use Rattle.calls.specs.Laws.Booted.{boot-sound}
 use Rattle.calls.specs.Laws.Sound.{step-sound}
 use Rattle.isolation.specs.Group.{Group}
-use Rattle.isolation.specs.Runs.{Event, Run, startOf, resultOf}
+use Rattle.isolation.specs.Runs.{Run, startOf}
 use Rattle.isolation.specs.Premises.{CallPremise, Along, Premises}
 use Rattle.isolation.specs.Slots.Inside.{StateIn, in-premise}
 use Rattle.isolation.specs.Slots.Steps.{step-in}

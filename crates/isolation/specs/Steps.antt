@@ -19,6 +19,7 @@ use Rattle.calls.specs.View.{World, View, Check, check, firstFailing}
 use Rattle.calls.specs.Rules.{early, view, late, checks, touched, changes}
 use Rattle.calls.specs.Step.{concluded, storeCheck, uncheckedBy, unchecked, worldOf, step}
 use Rattle.calls.specs.Step.{answerOf}
+use Rattle.calls.specs.Runs.{Event, resultOf}
 use Rattle.calls.specs.Laws.Passed.{Passes, Does, step-cases}
 use Rattle.calls.specs.Laws.Unchecked.{sound-unchecked}
 use Rattle.calls.specs.Laws.Sound.{step-sound, words-kept}
@@ -30,7 +31,7 @@ use Rattle.calls.specs.declared.DomainCall.the-variants.{Insert, Remove, Get, L
 use Rattle.calls.specs.declared.Refusal.{Refusal}
 use Rattle.calls.specs.declared.Refusal.the-variants.{StoreLength}
 use Rattle.isolation.specs.Group.{Group, member}
-use Rattle.isolation.specs.Runs.{Event, resultOf, blanked, blankedEvent}
+use Rattle.isolation.specs.Runs.{blanked, blankedEvent}
 use Rattle.isolation.specs.Premises.{changesInside, OutsiderCall, StatePremise, CallPremise}
 use Rattle.isolation.specs.Part.{part, domain-in, words-length, part-part, all-in, AllOutside, all-out}
 use Rattle.isolation.specs.Seen.{view-in}

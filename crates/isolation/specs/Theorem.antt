@@ -10,8 +10,9 @@ use Rattle.state.specs.declared.Domain.{Domain}
 use Rattle.state.specs.declared.Frame.{Frame}
 use Rattle.calls.specs.View.{World}
 use Rattle.calls.specs.Step.{worldOf}
+use Rattle.calls.specs.Runs.{Event, resultOf, final}
 use Rattle.isolation.specs.Group.{Group, member}
-use Rattle.isolation.specs.Runs.{Event, startOf, resultOf, final, answers, membersOnly}
+use Rattle.isolation.specs.Runs.{startOf, answers, membersOnly}
 use Rattle.isolation.specs.Premises.{Along}
 use Rattle.isolation.specs.Claim.{SameFrame, SameDomain, SameInside, Isolation}
 use Rattle.isolation.specs.Part.{part, word-in, based-in, domain-in}

@@ -17,13 +17,14 @@ use Rattle.calls.specs.Answers.{numberOf}
 use Rattle.calls.specs.View.{World}
 use Rattle.calls.specs.Step.{unchecked, worldOf}
 use Rattle.calls.specs.Boot.{homeOf}
+use Rattle.calls.specs.Runs.{Event, resultOf, final}
 use Rattle.calls.specs.Laws.Unchecked.{sound-unchecked}
 use Rattle.calls.specs.Laws.Sound.{unchecked-sound}
 use Rattle.calls.specs.Laws.Booted.{boot-sound}
 use Rattle.calls.specs.declared.Presented.{Presented}
 use Rattle.isolation.specs.Members.{member-below}
 use Rattle.isolation.specs.Group.{Group, member}
-use Rattle.isolation.specs.Runs.{Event, Run, startOf, resultOf, final, answers, membersCalls}
+use Rattle.isolation.specs.Runs.{Run, startOf, answers, membersCalls}
 use Rattle.isolation.specs.Premises.{HeldInside, FrameInside, SlotsInside, ListsInside, Judges, OutsiderCall, StatePremise, CallPremise, Along}
 use Rattle.isolation.specs.Claim.{Comparable}
 use Rattle.isolation_examples.specs.Tests.{frameTest, slotsTest, stateTest, heldTest, pairsTest, listsTest, judgesTest, listsWhen, grantedTest, RunTests, both, callTests, traceBy, Tests, homesTest, bootTest, traceOf, testsBy, allTrue}

@@ -7,13 +7,14 @@ use lib.ListN.{replicate}
 use Rattle.judge.specs.Search.{searched}
 use Rattle.judge.specs.Judged.{judged}
 use Rattle.calls.specs.View.{Judging}
+use Rattle.calls.specs.Runs.{Event}
 use Rattle.calls.specs.Laws.Booted.{boot-sound}
 use Rattle.cases.specs.Runs.{Exchange, answers, expected, answersBy, answers-are, by-search}
 use Rattle.calls.specs.declared.Call.{Call}
 use Rattle.calls.specs.declared.Call.the-variants.{OnObject}
 use Rattle.calls.specs.declared.ObjectCall.the-variants.{Register}
 use Rattle.isolation.specs.Group.{Group}
-use Rattle.isolation.specs.Runs.{Event, Run, startOf}
+use Rattle.isolation.specs.Runs.{Run, startOf}
 use Rattle.isolation.specs.Claim.{Isolated}
 use Rattle.isolation_examples.specs.Tests.{Tests, testsBy}
 use Rattle.isolation_examples.specs.Compared.{Parts, partsBy, parts-hold}

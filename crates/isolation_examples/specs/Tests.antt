@@ -15,11 +15,12 @@ use Rattle.calls.specs.View.{World, Judging, firstFailing}
 use Rattle.calls.specs.Rules.{wanted, presented, early}
 use Rattle.calls.specs.Step.{Result, uncheckedBy, worldOf, answerOf}
 use Rattle.calls.specs.Boot.{homeOf}
+use Rattle.calls.specs.Runs.{Event}
 use Rattle.cases.specs.Runs.{answersBy}
 use Rattle.calls.specs.declared.Refusal.{Refusal}
 use Rattle.calls.specs.declared.Presented.{Presented}
 use Rattle.isolation.specs.Group.{Group, member}
-use Rattle.isolation.specs.Runs.{Event, Run, bootResult, startOf, membersOnly}
+use Rattle.isolation.specs.Runs.{Run, bootResult, startOf, membersOnly}
 use Rattle.isolation.specs.Premises.{staysInside, wants, changesInside}
 
 -- each slot of a frame, and each slot and saved slot of a domain, is true for nothing outside

@@ -137,6 +137,9 @@ pub fn obj_passwd_add(
     if !add_in_range(base, password, mode) {
         return unaltered(t, Refusal::OutOfRange);
     }
+    if f.whole {
+        return unaltered(t, Refusal::Locked);
+    }
     let Judgement::Granted(pair) = judge(t, store, f, Target::Base(base), Rights::OWNER) else {
         return unaltered(t, Refusal::NotGranted);
     };

@@ -132,6 +132,9 @@ pub fn obj_cre_pdx(
     if !register_in_range(base, password, list, entries) {
         return unaltered(t, Refusal::OutOfRange);
     }
+    if f.whole {
+        return unaltered(t, Refusal::Locked);
+    }
     let Judgement::Granted(pair) = judge(t, store, f, Target::Base(base), Rights::OWNER) else {
         return unaltered(t, Refusal::NotGranted);
     };

@@ -1,4 +1,4 @@
--- A call on the object with a base: what its code hands back behind check 5.
+-- A call on the object with a base: what its code hands back behind checks 5 and 6.
 use Prim.Native.Nat.{ℕ, _/_}
 use mathlib.Core.Path.{_≡_, refl}
 use mathlib.Core.Bool.{true}
@@ -28,22 +28,18 @@ use Rattle.calls.specs.declared.ObjectCall.the-variants.{Create, Delete,
 use Rattle.calls.specs.declared.Altered.{Altered}
 use Rattle.calls.specs.declared.Refusal.{Refusal}
 
--- of every call on objects: no lock stops it, its value is 0, and it has no fields
+-- of every call on objects: its value is 0, and it has no fields
 record Plain (c : ObjectCall) : Type 0 where
-  pub unlocks : (g : Frame) → unlocked (OnObject c) g ≡ true
   pub zero : (v : View) → value (OnObject c) v ≡ 0
   pub bare : (v : View) → fields (OnObject c) v ≡ noFields
 
 plain : (c : ObjectCall) → Plain c
-unfolding rule unlocked
-plain (Create p n k) = record { unlocks = λ g. refl; zero = λ v. refl; bare = λ v. refl }
-plain (Delete b) = record { unlocks = λ g. refl; zero = λ v. refl; bare = λ v. refl }
-plain (AddPassword b k m) = record { unlocks = λ g. refl; zero = λ v. refl; bare = λ v. refl }
-plain (DropPassword b k) = record { unlocks = λ g. refl; zero = λ v. refl; bare = λ v. refl }
-plain (Register b k l es) = record { unlocks = λ g. refl; zero = λ v. refl; bare = λ v. refl }
-
-pub never-locked : (c : ObjectCall) (g : Frame) → unlocked (OnObject c) g ≡ true
-never-locked c = plain c .unlocks
+unfolding rule
+plain (Create p n k) = record { zero = λ v. refl; bare = λ v. refl }
+plain (Delete b) = record { zero = λ v. refl; bare = λ v. refl }
+plain (AddPassword b k m) = record { zero = λ v. refl; bare = λ v. refl }
+plain (DropPassword b k) = record { zero = λ v. refl; bare = λ v. refl }
+plain (Register b k l es) = record { zero = λ v. refl; bare = λ v. refl }
 
 -- what the search for the object with a base gives, by the judgement
 abbrev pub based : Table → List ℕ → ℕ → Judgement → Option Found
@@ -55,19 +51,20 @@ pub record Sees (t : Table) (words : List ℕ) (c : ObjectCall) (b : ℕ) (j : J
   pub live : v .live ≡ passes t (presented (OnObject c))
 
 module _ (t : Table) (d : ℕ) (f : Frame) (words : List ℕ) (c : ObjectCall) {b r : ℕ} {a j : Judgement}
-    (w : wanted (OnObject c) ≡ rights (Base b) r) (n : inRange (OnObject c) ≡ true) (p : a ≡ judged t words f (Base b) r) (g : a ≡ j) where
+    (w : wanted (OnObject c) ≡ rights (Base b) r) (n : inRange (OnObject c) ≡ true)
+    (u : unlocked (OnObject c) f ≡ true) (p : a ≡ judged t words f (Base b) r) (g : a ≡ j) where
   sees : (m : Domain) → m .active ≡ f → Sees t words c b j (viewOf t words m (estateAt t d) (OnObject c))
   sees m q = record { found = rw (w, q, ← p, g); live = refl }
 
   -- refused by the judgement, or behind it
   pub based-late : {x : Altered} {why : Refusal} → ((v : View) → Sees t words c b j v → firstFailing (late d (OnObject c) v) ≡ some why) → x ≡ unaltered t why
       → Alters t d f words c x words
-  based-late l h = alters-late t d f words c n (never-locked c) (λ m q. l _ (sees m q)) h
+  based-late l h = alters-late t d f words c n u (λ m q. l _ (sees m q)) h
 
   -- done: the object becomes another
   pub based-done : {x : Altered} (o : Object) → ltb b 128 ≡ true → ((v : View) → Sees t words c b j v → firstFailing (late d (OnObject c) v) ≡ none)
       → ((v : View) → Sees t words c b j v → changes d (OnObject c) v ≡ estate (b / 32) (withObject (estateOf t b) (placeBased (estateOf t b) b) o) ∷ [])
       → x ≡ becoming t b o → Alters t d f words c x words
   based-done o i l k h =
-      alters-done t d f words c n (never-locked c) (λ m q. l _ (sees m q))
+      alters-done t d f words c n u (λ m q. l _ (sees m q))
       (λ m q s. rw (h, i, k _ (sees m q), plain c .zero, plain c .bare))

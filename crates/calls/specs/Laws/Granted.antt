@@ -85,7 +85,8 @@ module _ (w : World) (d : ℕ) (c : Call) where
       go (rights target r) none = (refl, tt)
       go (rights target r) (some l) = (refl, (refl, tt))
 
-  step-number : answered w d c ≡ number (firstFailing (allChecks w d c))
+  -- the number of the first check that fails
+  pub step-number : answered w d c ≡ number (firstFailing (allChecks w d c))
   unfolding stepBy
   step-number = go (firstFailing (allChecks w d c))
     where

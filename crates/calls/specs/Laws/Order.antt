@@ -61,17 +61,22 @@ rest-ascends d (OnDomain (Lock i)) v = refl
 rest-ascends d (OnDomain (PdxCall a ch)) v = refl
 rest-ascends d (OnDomain PdxReturn) v = refl
 
+-- from check 7 on the numbers never fall either
+pub late-ascends : (d : ℕ) (c : Call) (v : View) → ascending 7 (late d c v) ≡ true
+unfolding ascending late
+late-ascends d c v = from-seven (wanted c) (presented c) (rule c .rest d v) (rest-ascends d c v)
+  where
+    from-seven : (want : Want) (presents : Option Presented) (cs : List Check) → ascending 8 cs ≡ true
+        → ascending 7 (grantedCheck want v ++ presentedCheck presents v ++ cs) ≡ true
+    from-seven nothing none cs h = ascends-from 7 8 cs (omega arith) h
+    from-seven nothing (some l) cs h = ascends-from 7 8 cs (omega arith) h
+    from-seven (rights target r) none cs h = ascends-from 7 8 cs (omega arith) h
+    from-seven (rights target r) (some l) cs h = ascends-from 7 8 cs (omega arith) h
+
 -- THE CHECKS COME IN THE PAPER'S ORDER, whatever is read
 pub checks-ascend : (w : World) (d : ℕ) (c : Call) (v : View) → ascending 2 (storeCheck w ∷ soundCheck w ∷ checks d c v) ≡ true
-unfolding ascending checks early late
-checks-ascend w d c v = from-six (wanted c) (presented c) (rule c .rest d v) (rest-ascends d c v)
-  where
-    from-six : (want : Want) (presents : Option Presented) (cs : List Check) → ascending 8 cs ≡ true
-        → ascending 6 (grantedCheck want v ++ presentedCheck presents v ++ cs) ≡ true
-    from-six nothing none cs h = ascends-from 6 8 cs (omega arith) h
-    from-six nothing (some l) cs h = ascends-from 7 8 cs (omega arith) h
-    from-six (rights target r) none cs h = ascends-from 7 8 cs (omega arith) h
-    from-six (rights target r) (some l) cs h = ascends-from 7 8 cs (omega arith) h
+unfolding ascending checks early
+checks-ascend w d c v = ascends-from 6 7 (late d c v) (omega arith) (late-ascends d c v)
 
 -- each check of the list holds
 abbrev pub AllHold : List Check → Type 0

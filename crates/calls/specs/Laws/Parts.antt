@@ -68,23 +68,26 @@ module _ (t : Table) (f : Frame) (words : List ℕ) (c : Access) {a : Answer} {w
   answers-range n h k s d e p q = by-range s words d (OnStore c) e n (rw (h, k))
 
 module _ (t : Table) (d : ℕ) (f : Frame) (words : List ℕ) (c : ObjectCall) {r : Altered} where
-  -- a call on objects: out of range, and refused behind that
+  -- a call on objects: out of range, locked, and refused behind that
   pub alters-range : inRange (OnObject c) ≡ false → r ≡ unaltered t OutOfRange → Alters t d f words c r words
   alters-range n h s e p q = by-range s words d (OnObject c) e n (rw (h, own-estate s t 0 p))
 
-  pub alters-late : {why : Refusal} → inRange (OnObject c) ≡ true → ((g : Frame) → unlocked (OnObject c) g ≡ true)
+  pub alters-lock : inRange (OnObject c) ≡ true → unlocked (OnObject c) f ≡ false → r ≡ unaltered t Locked → Alters t d f words c r words
+  alters-lock n u h s e p q = by-lock s words d (OnObject c) e n (rw q u) (rw (h, own-estate s t 0 p))
+
+  pub alters-late : {why : Refusal} → inRange (OnObject c) ≡ true → unlocked (OnObject c) f ≡ true
       → ((m : Domain) → m .active ≡ f → firstFailing (late d (OnObject c) (viewOf t words m (estateAt t d) (OnObject c))) ≡ some why)
       → r ≡ unaltered t why → Alters t d f words c r words
   alters-late {why} n u l h s e p q =
-      by-late s words d (OnObject c) e {why = why} n (u _) (rw (view-is s words d (OnObject c) t p) (l (domainAt s d) q)) (rw (h, own-estate s t 0 p))
+      by-late s words d (OnObject c) e {why = why} n (rw q u) (rw (view-is s words d (OnObject c) t p) (l (domainAt s d) q)) (rw (h, own-estate s t 0 p))
 
   -- done: it changes the estate that it hands back, and perhaps zeroes words
-  pub alters-done : {words′ : List ℕ} → inRange (OnObject c) ≡ true → ((g : Frame) → unlocked (OnObject c) g ≡ true)
+  pub alters-done : {words′ : List ℕ} → inRange (OnObject c) ≡ true → unlocked (OnObject c) f ≡ true
       → ((m : Domain) → m .active ≡ f → firstFailing (late d (OnObject c) (viewOf t words m (estateAt t d) (OnObject c))) ≡ none)
       → ((m : Domain) → m .active ≡ f → (s : State) → result (withAltered s r) words′ ≡ done (world s words) d (OnObject c) (viewOf t words m (estateAt t d) (OnObject c)))
       → Alters t d f words c r words′
   alters-done n u l h s e p q =
-      by-done s words d (OnObject c) e n (u _) (rw (view-is s words d (OnObject c) t p) (l (domainAt s d) q))
+      by-done s words d (OnObject c) e n (rw q u) (rw (view-is s words d (OnObject c) t p) (l (domainAt s d) q))
       (rw (view-is s words d (OnObject c) t p) (h (domainAt s d) q s))
 
 module _ (t : Table) (m : Domain) (words : List ℕ) (c : DomainCall) {r : Moved} where

@@ -21,6 +21,7 @@ use Rattle.calls.specs.View.{rights, World, search, objectOf, estateFound}
 use Rattle.calls.specs.Changes.{Change, word, zeros, estate, domain, capability, registration, applyOne, applyAll}
 use Rattle.calls.specs.Rules.{touched, wanted, early, view, late, changes}
 use Rattle.calls.specs.Step.{step}
+use Rattle.calls.specs.Runs.{resultOf}
 use Rattle.calls.specs.Laws.Passed.{Passes, Refuses, Does, step-cases}
 use Rattle.calls.specs.declared.Call.{Call}
 use Rattle.calls.specs.declared.Call.the-variants.{OnStore, OnObject, OnDomain}
@@ -28,7 +29,6 @@ use Rattle.calls.specs.declared.Access.the-variants.{Read, Write, Execute, Look
 use Rattle.calls.specs.declared.ObjectCall.the-variants.{Create, Delete, AddPassword, DropPassword, Register}
 use Rattle.calls.specs.declared.DomainCall.the-variants.{Insert, Remove, Get, Lock, PdxCall, PdxReturn}
 use Rattle.isolation.specs.Group.{Group, member}
-use Rattle.isolation.specs.Runs.{resultOf}
 use Rattle.isolation.specs.Premises.{wants, Judges, CallPremise}
 use Rattle.isolation.specs.Seen.{live-inside}
 use Rattle.isolation.specs.Slots.Inside.{FrameIn, DomainIn, ObjectIn, EstateIn, StateIn}

@@ -1,10 +1,11 @@
 -- What a judgement depends on: the pairs of the Clists searched, their modes for the object asked for, and whether it stands.
 use Prim.Native.Nat.{ℕ, _<_}
 use mathlib.Core.Path.{_≡_, ap, sym, _∙_}
-use mathlib.Core.Bool.{true, true≢false}
+use mathlib.Core.Bool.{true, false, cond, _||_, true≢false}
 use mathlib.Core.List.{List}
 use mathlib.Core.Logic.{⊎-elim}
 use native.Mathlib.Omega.{arith}
+use lib.Dec.{eqb}
 use Rattle.bounded.specs.Bools.{same-or-not}
 use Rattle.bounded.specs.Search.{first, first-same}
 use Rattle.state.specs.Extent.{free}
@@ -12,7 +13,7 @@ use Rattle.state.specs.declared.Object.{Object}
 use Rattle.state.specs.declared.Table.{Table}
 use Rattle.state.specs.declared.Frame.{Frame}
 use Rattle.clists.specs.Clist.{listAt}
-use Rattle.judge.specs.Search.{verdictOf, pairVerdict, decides, listVerdict, slotVerdict, frameVerdict, targeted}
+use Rattle.judge.specs.Search.{verdictOf, pairVerdict, decides, listVerdict, slotVerdict, frameVerdict, judgementOf, targeted}
 use Rattle.judge.specs.Judged.{judged}
 use Rattle.judge.specs.Pairs.{pairsAt, firstWord, secondWord, addressAt, modeAt, EachPair, TrueFor}
 use Rattle.judge.specs.Laws.Pairs.{pair-true}
@@ -95,3 +96,13 @@ module _ (t : Table) (words : List ℕ) (f : Frame) (target : Target) (wanted : 
 -- Rule 3: where no right is wanted, there is no grant.
 pub none-wanted : (t : Table) (words : List ℕ) (f : Frame) (target : Target) → judged t words f target 0 ≡ Refused
 none-wanted t words f target = refused-when t words f target 0 .1 (λ x. true≢false (x .some-right))
+
+-- LOCKS DO NOT MATTER: frames with the same slots are judged alike.
+pub slots-local : (t : Table) (words : List ℕ) (f g : Frame) (target : Target) (wanted : ℕ) → f .slots ≡ g .slots → f .count ≡ g .count
+    → judged t words f target wanted ≡ judged t words g target wanted
+unfolding frameVerdict slotVerdict listAt
+slots-local t words f g target wanted s n =
+    judged-by t words f target wanted
+    ∙ (λ i. cond (free (targeted t target) || eqb wanted 0) Refused
+    (judgementOf (frameVerdict t words (record { slots = s i; count = n i; locked = 0; whole = false }) (targeted t target) wanted)))
+    ∙ sym (judged-by t words g target wanted)

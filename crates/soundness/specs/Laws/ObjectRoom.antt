@@ -50,7 +50,7 @@ pub record NewAt (t : Table) (d k : ℕ) (o : Object) : Type 0 where
   pub vacant : free (objectAt (estateAt t d) k) ≡ true
 
 -- and each free place is one for such an object
-free-room : (s : State) (d k : ℕ) (o : Object) → sound s ≡ true → d < 4 → o .base / 32 ≡ d → 0 < o .pages → NewAt (s .table) d k o
+pub free-room : (s : State) (d k : ℕ) (o : Object) → sound s ≡ true → d < 4 → o .base / 32 ≡ d → 0 < o .pages → NewAt (s .table) d k o
     → Room (s .table) d k (o .base)
 free-room s d k o h l e p n =
     let q = state-parts s h in

@@ -32,7 +32,7 @@ new-room o d word k h p n within z =
     }
 
 -- the place of an ordinary password is one for it
-old-room : (o : Object) (d word : ℕ) → objectOk o d ≡ true → 0 < o .pages → 0 < word → Ordinary o word → WordRoom o (placeOf o word) word
+pub old-room : (o : Object) (d word : ℕ) → objectOk o d ≡ true → 0 < o .pages → 0 < word → Ordinary o word → WordRoom o (placeOf o word) word
 old-room o d word h s p r =
     let q = object-parts o d h in
     record {

@@ -1,6 +1,6 @@
 //! Inputs whose whole output is written out: the paper's listing, its edges
-//! and its traps, the readings, the ends of Clists, and lines that cannot be
-//! read.
+//! and its traps, the readings, the ends of Clists, the whole lock, and lines
+//! that cannot be read.
 
 mod boots;
 mod edges;
@@ -9,6 +9,7 @@ mod lists;
 mod objects;
 mod passwords;
 mod ranges;
+mod sealed;
 mod slots;
 mod unreadable;
 
@@ -125,8 +126,8 @@ fn whole((name, start, calls): &Written) -> Case {
     case
 }
 
-/// The listing, the cases around the edges, the traps, the readings and the
-/// ends of Clists.
+/// The listing, the cases around the edges, the traps, the readings, the whole
+/// lock and the ends of Clists.
 pub fn paper() -> Vec<Case> {
     let groups = [
         edges::EDGES,
@@ -135,6 +136,7 @@ pub fn paper() -> Vec<Case> {
         objects::OBJECTS,
         passwords::PASSWORDS,
         slots::SLOTS,
+        sealed::SEALED,
         objects::ESTATES,
         ranges::RANGES,
         ends::ENDS,

@@ -11,7 +11,8 @@ pub const NO_LETTERS: &str = "--";
 /// - Every call can stand in a line that is not readable (1), and can come
 ///   from a domain above 3 (4).
 /// - GT and RT have no arguments, so no range to break (5).
-/// - IN, RM and CA alone are stopped by locks (6).
+/// - IN and RM alone are stopped by a lock of slots, and IN, RM, CA, AP and RG
+///   alone by the whole lock (6).
 /// - CR, IN, RM, GT, LO, RT and BT want no rights; of these IN alone presents
 ///   a capability (7).
 /// - CA and RG alone have entries to miss (8), CR alone a place (9), AP and RG
@@ -26,9 +27,9 @@ pub const TABLE: [(&str, &[u8]); 17] = [
     ("LK", &[0, 1, 4, 5, 7]),
     ("CR", &[0, 1, 4, 5, 9, 11]),
     ("DL", &[0, 1, 4, 5, 7]),
-    ("AP", &[0, 1, 4, 5, 7, 10, 11]),
+    ("AP", &[0, 1, 4, 5, 6, 7, 10, 11]),
     ("DP", &[0, 1, 4, 5, 7, 12]),
-    ("RG", &[0, 1, 4, 5, 7, 8, 10, 11]),
+    ("RG", &[0, 1, 4, 5, 6, 7, 8, 10, 11]),
     ("IN", &[0, 1, 4, 5, 6, 7, 11, 12]),
     ("RM", &[0, 1, 4, 5, 6, 12]),
     ("GT", &[0, 1, 4]),

@@ -15,6 +15,7 @@ mod passwords;
 mod plans;
 mod procedures;
 mod registrations;
+mod sealed;
 mod slots;
 mod stray;
 mod values;

@@ -69,33 +69,4 @@ impl Generator {
             _ => {}
         }
     }
-
-    /// The whole lock inside a call; the return lifts it.
-    pub(super) fn seal(&mut self, d: usize) {
-        let Some((object, registration)) = self.door(d) else {
-            return;
-        };
-        let entry = registration.entries[0];
-        let choice = self.random.below(2);
-        self.push(d, "CA", &[entry, choice]);
-        self.push(d, "LO", &[WHOLE]);
-        let mut probes = vec![
-            Line::new(d as u64, "RM", &[0]),
-            Line::new(d as u64, "RM", &[7]),
-            Line::new(d as u64, "CA", &[entry, choice]),
-            Line::new(d as u64, "LO", &[0]),
-            Line::new(d as u64, "LO", &[WHOLE]),
-            Line::new(d as u64, "GT", &[]),
-            Line::new(d as u64, "RD", &[object.base * PAGE_WORDS]),
-        ];
-        if let Some(list) = self.list() {
-            probes.push(Line::new(d as u64, "IN", &[1, list.page, list.password]));
-        }
-        for _ in 0..3 + self.random.below(4) {
-            let at = self.random.index(probes.len());
-            self.queue.push_back(probes[at].clone());
-        }
-        self.push(d, "RT", &[]);
-        self.push(d, "GT", &[]);
-    }
 }

@@ -14,6 +14,7 @@ impl Monitor {
             base < PAGES && password != 0 && legal_mode(mode),
             Refusal::Range,
         )?;
+        need(!self.domains[d].now.whole, Refusal::Locked)?;
         let index = self.judge_base(d, base, OWNER)?;
         let object = &mut self.objects[index];
         need(object.mode(password).is_none(), Refusal::Known)?;
@@ -54,6 +55,7 @@ impl Monitor {
                 && entries.iter().all(|&e| e < WORDS),
             Refusal::Range,
         )?;
+        need(!self.domains[d].now.whole, Refusal::Locked)?;
         let index = self.judge_base(d, base, OWNER)?;
         need(self.clist(list).is_some(), Refusal::NotGranted)?;
         let object = &mut self.objects[index];

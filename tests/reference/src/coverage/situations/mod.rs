@@ -9,6 +9,7 @@ mod objects;
 mod passwords;
 mod procedures;
 mod registrations;
+mod sealed;
 mod slots;
 
 use super::seen::Seen;
@@ -17,7 +18,7 @@ use crate::monitor::*;
 /// A situation's name, and whether a call is in it.
 pub type Situation = (&'static str, fn(&Seen) -> bool);
 
-const GROUPS: [&[Situation]; 10] = [
+const GROUPS: [&[Situation]; 11] = [
     boots::BOOTS,
     judging::JUDGING,
     lists::LISTS,
@@ -26,6 +27,7 @@ const GROUPS: [&[Situation]; 10] = [
     passwords::PASSWORDS,
     registrations::REGISTRATIONS,
     slots::SLOTS,
+    sealed::SEALED,
     procedures::PROCEDURES,
     faults::FAULTS,
 ];

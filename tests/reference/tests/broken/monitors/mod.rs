@@ -6,6 +6,7 @@ mod judging;
 mod objects;
 mod pages;
 mod procedures;
+mod sealed;
 mod shams;
 mod slots;
 mod traps;
@@ -40,6 +41,7 @@ fn broken() -> impl Iterator<Item = Broken> {
         ends::ENDS,
         objects::OBJECTS,
         slots::SLOTS,
+        sealed::SEALED,
         procedures::PROCEDURES,
         boots::BOOTS,
     ];

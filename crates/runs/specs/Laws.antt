@@ -1,0 +1,5 @@
+-- The laws over lists of calls.
+pub mod Others
+pub mod Kept
+pub mod Added
+pub mod WholeLock

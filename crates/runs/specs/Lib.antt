@@ -1,0 +1,2 @@
+pub mod WholeLock
+pub mod Laws

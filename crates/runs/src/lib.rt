@@ -1,0 +1,1 @@
+// No code: laws over any list of calls, by any domains.
