@@ -88,7 +88,7 @@ fn stays_true(document: &str, rows: usize) {
 #[test]
 fn trace_names_stand_where_it_says() {
     stays_true("docs/TRACE.md", 100);
-    stays_true("docs/TRACE-02.md", 12);
+    stays_true("docs/TRACE-02.md", 40);
 }
 
 #[test]

@@ -13,9 +13,10 @@ use Rattle.object_calls.proofs.Ranges.{add-range}
 use Rattle.object_calls.proofs.obj_passwd_add.Statement.{statement}
 use Rattle.object_calls.proofs.obj_passwd_add.Tie as tie
 
--- behind check 5
-ranged : (c : tie.Else1) → let x = c .before .before .before .args in inRange (OnObject (AddPassword (x .base) (x .password) (x .mode))) ≡ true
-ranged c = holds (c .before .add-in-range .ensures) (c .if1 .left)
+-- behind checks 5 and 6
+passed : (c : tie.Else2) → let x = c .before .before .before .before .args in let call = OnObject (AddPassword (x .base) (x .password) (x .mode)) in (inRange call ≡ true) × (unlocked call (x .f) ≡ true)
+unfolding unlocked
+passed c = (holds (c .before .before .add-in-range .ensures) (c .before .if1 .left), ap not (c .if2 .left))
 
 pub obj-passwd-add-spec : {M : Type 1} → statement M
 unfolding rule unlocked late changes
@@ -23,19 +24,19 @@ obj-passwd-add-spec =
     tie.close
     (tie.spec (λ c κs. search needs) (λ c κs. search needs) (λ c d. alters-range _ d _ _ _ (fails (c .before .before .add-in-range .ensures) (c .before .if1 .taken)) (c .unaltered .ensures))
     (λ c κs. search needs)
-    (λ c d. let a = c .before .before in alters-lock _ d _ _ _ (ranged a) (ap not (c .before .if2 .taken)) (c .unaltered2 .ensures))
+    (λ c d. let a = c .before .before in alters-lock _ d _ _ _ (holds (a .before .add-in-range .ensures) (a .if1 .left)) (ap not (c .before .if2 .taken)) (c .unaltered2 .ensures))
     (λ c κs. search needs) (λ c. search needs)
-    (λ c. search needs) (λ c κs. search needs) (λ c d. let j = c .before .before .before in let b = j .before in let a = b .before in based-late _ d _ _ _ refl (ranged a) (ap not (b .if2 .left)) (j .judge .ensures) (c .before .enum-told .given .1)
+    (λ c. search needs) (λ c κs. search needs) (λ c d. let j = c .before .before .before in let p = passed (j .before) in based-late _ d _ _ _ refl (p .0) (p .1) (j .judge .ensures) (c .before .enum-told .given .1)
     (λ v s. rw (s .found)) (c .unaltered3 .ensures))
     (λ c κs. search needs) (λ c κs. search needs) (λ c κs. search needs)
     (λ c d.
-    let h = c .before .before in let g = h .before .before .before in let j = g .before .before in let b = j .before in let a = b .before in
-    based-late _ d _ _ _ refl (ranged a) (ap not (b .if2 .left)) (j .judge .ensures) (g .pair .given .1)
+    let h = c .before .before in let g = h .before .before .before in let j = g .before .before in let p = passed (j .before) in
+    based-late _ d _ _ _ refl (p .0) (p .1) (j .judge .ensures) (g .pair .given .1)
     (λ v s. rw (s .found, ← h .before .object-based .ensures, sym (h .has-password .ensures) ∙ c .before .if3 .taken)) (c .unaltered4 .ensures))
     (λ c κs. search needs) (λ c κs. search needs)
     (λ c d.
-    let k = c .before .before in let h = k .before .before in let g = h .before .before .before in let j = g .before .before in let b = j .before in let a = b .before in
-    based-late _ d _ _ _ refl (ranged a) (ap not (b .if2 .left)) (j .judge .ensures) (g .pair .given .1)
+    let k = c .before .before in let h = k .before .before in let g = h .before .before .before in let j = g .before .before in let p = passed (j .before) in
+    based-late _ d _ _ _ refl (p .0) (p .1) (j .judge .ensures) (g .pair .given .1)
     (λ v s. rw (
       s .found,
       ← h .before .object-based .ensures,
@@ -44,12 +45,11 @@ obj-passwd-add-spec =
       le-ltb _ _ (c .before .if4 .taken),
     ))
     (c .unaltered5 .ensures))
-    (λ c. let a = c .before .before .before .before .before .before .before .before .before .before in omega (arith, add-range _ _ _ (ranged a) .1))
+    (λ c. omega (arith, add-range _ _ _ (passed (c .before .before .before .before .before .before .before .before .before) .0) .1))
     (λ c κs. search needs) (λ c κs. search needs)
     (λ c d.
-    let k = c .before .before .before in let h = k .before .before in let g = h .before .before .before in let j = g .before .before in let b = j .before in let a = b .before in
-    let n = ranged a in
-    based-done _ d _ _ _ refl n (ap not (b .if2 .left)) (j .judge .ensures) (g .pair .given .1) _ (lt-ltb _ _ (add-range _ _ _ n .0))
+    let k = c .before .before .before in let h = k .before .before in let g = h .before .before .before in let j = g .before .before in let p = passed (j .before) in
+    based-done _ d _ _ _ refl (p .0) (p .1) (j .judge .ensures) (g .pair .given .1) _ (lt-ltb _ _ (add-range _ _ _ (p .0) .0))
     (λ v s. rw (
       s .found,
       ← h .before .object-based .ensures,

@@ -12,9 +12,10 @@ use Rattle.register_call.proofs.RegisterRange.{register-range}
 use Rattle.register_call.proofs.obj_cre_pdx.Statement.{statement}
 use Rattle.register_call.proofs.obj_cre_pdx.Tie as tie
 
--- behind check 5
-ranged : (c : tie.Else1) → let x = c .before .before .before .args in inRange (OnObject (Register (x .base) (x .password) (x .list) (x .entries))) ≡ true
-ranged c = holds (c .before .register-in-range .ensures) (c .if1 .left)
+-- behind checks 5 and 6
+passed : (c : tie.Else2) → let x = c .before .before .before .before .args in let call = OnObject (Register (x .base) (x .password) (x .list) (x .entries)) in (inRange call ≡ true) × (unlocked call (x .f) ≡ true)
+unfolding unlocked
+passed c = (holds (c .before .before .register-in-range .ensures) (c .before .if1 .left), ap not (c .if2 .left))
 
 pub obj-cre-pdx-spec : {M : Type 1} → statement M
 unfolding rule unlocked late changes
@@ -22,58 +23,55 @@ obj-cre-pdx-spec =
     tie.close
     (tie.spec (λ c κs. search needs) (λ c κs. search needs) (λ c d. alters-range _ d _ _ _ (fails (c .before .before .register-in-range .ensures) (c .before .if1 .taken)) (c .unaltered .ensures))
     (λ c κs. search needs)
-    (λ c d. let a = c .before .before in alters-lock _ d _ _ _ (ranged a) (ap not (c .before .if2 .taken)) (c .unaltered2 .ensures))
+    (λ c d. let a = c .before .before in alters-lock _ d _ _ _ (holds (a .before .register-in-range .ensures) (a .if1 .left)) (ap not (c .before .if2 .taken)) (c .unaltered2 .ensures))
     (λ c κs. search needs) (λ c. search needs)
-    (λ c. search needs) (λ c κs. search needs) (λ c d. let j = c .before .before .before in let b = j .before in let a = b .before in based-late _ d _ _ _ refl (ranged a) (ap not (b .if2 .left)) (j .judge .ensures) (c .before .enum-told .given .1)
+    (λ c. search needs) (λ c κs. search needs) (λ c d. let j = c .before .before .before in let p = passed (j .before) in based-late _ d _ _ _ refl (p .0) (p .1) (j .judge .ensures) (c .before .enum-told .given .1)
     (λ v s. rw (s .found)) (c .unaltered3 .ensures))
     (λ c κs.
-    let a = c .before .before .before .before .before in
-    register-range _ _ _ _ (ranged a) .page)
+    register-range _ _ _ _ (passed (c .before .before .before .before) .0) .page)
     (λ c κs. search needs) (λ c κs. search needs)
     (λ c d.
-    let l = c .before .before in let g = l .before .before .before in let j = g .before .before in let b = j .before in let a = b .before in
-    based-late _ d _ _ _ refl (ranged a) (ap not (b .if2 .left)) (j .judge .ensures) (g .pair .given .1)
+    let l = c .before .before in let g = l .before .before .before in let j = g .before .before in let p = passed (j .before) in
+    based-late _ d _ _ _ refl (p .0) (p .1) (j .judge .ensures) (g .pair .given .1)
     (λ v s. rw (s .found, s .live, ← l .before .capability .ensures, fails (l .live .ensures) (c .before .if3 .taken))) (c .unaltered4 .ensures))
     (λ c κs. search needs) (λ c κs. search needs) (λ c κs. search needs)
     (λ c d.
     let i = c .before .before in let o = i .before in let l = o .before .before in
-    let g = l .before .before .before in let j = g .before .before in let b = j .before in let a = b .before in
+    let g = l .before .before .before in let j = g .before .before in let p = passed (j .before) in
     let y = rw (l .before .capability .ensures) at (holds (l .live .ensures) (o .before .if3 .left)) in
-    based-late _ d _ _ _ refl (ranged a) (ap not (b .if2 .left)) (j .judge .ensures) (g .pair .given .1)
+    based-late _ d _ _ _ refl (p .0) (p .1) (j .judge .ensures) (g .pair .given .1)
     (λ v s. rw (s .found, s .live, y, ← o .object-based .ensures, fails (i .entries-inside .ensures) (c .before .if4 .taken)))
     (c .unaltered5 .ensures))
     (λ c κs. search needs) (λ c κs. search needs)
     (λ c d.
     let h = c .before .before in let i = h .before .before in let o = i .before in let l = o .before .before in
-    let g = l .before .before .before in let j = g .before .before in let b = j .before in let a = b .before in
+    let g = l .before .before .before in let j = g .before .before in let p = passed (j .before) in
     let y = rw (l .before .capability .ensures) at (holds (l .live .ensures) (o .before .if3 .left)) in
     let e = holds (i .entries-inside .ensures) (h .before .if4 .left) in
-    based-late _ d _ _ _ refl (ranged a) (ap not (b .if2 .left)) (j .judge .ensures) (g .pair .given .1)
+    based-late _ d _ _ _ refl (p .0) (p .1) (j .judge .ensures) (g .pair .given .1)
     (λ v s. rw (s .found, s .live, y, ← o .object-based .ensures, e, sym (h .has-password .ensures) ∙ c .before .if5 .taken))
     (c .unaltered6 .ensures))
     (λ c κs. search needs)
     (λ c d.
     let h = c .before .before .before .before .before in let i = h .before .before in let o = i .before in let l = o .before .before in
-    let g = l .before .before .before in let j = g .before .before in let b = j .before in let a = b .before in
+    let g = l .before .before .before in let j = g .before .before in let p = passed (j .before) in
     let y = rw (l .before .capability .ensures) at (holds (l .live .ensures) (o .before .if3 .left)) in
     let e = holds (i .entries-inside .ensures) (h .before .if4 .left) in
     let k = sym (h .has-password .ensures) ∙ c .before .before .before .before .if5 .left in
-    based-late _ d _ _ _ refl (ranged a) (ap not (b .if2 .left)) (j .judge .ensures) (g .pair .given .1)
+    based-late _ d _ _ _ refl (p .0) (p .1) (j .judge .ensures) (g .pair .given .1)
     (λ v s. rw (s .found, s .live, y, ← o .object-based .ensures, e, k, ne-eqb _ _ (c .before .if6 .taken)))
     (c .unaltered7 .ensures))
     (λ c κs.
-    let a = c .before .before .before .before .before .before .before .before .before .before .before .before .before .before .before .before in
-    let r = register-range _ _ _ _ (ranged a) in
+    let r = register-range _ _ _ _ (passed (c .before .before .before .before .before .before .before .before .before .before .before .before .before .before .before) .0) in
     (r .page, r .count, r .entries))
     (λ c κs. search needs) (λ c κs. search needs)
     (λ c d.
     let f = c .before .before .before in
     let h = f .before .before .before .before in let i = h .before .before in let o = i .before in let l = o .before .before in
-    let g = l .before .before .before in let j = g .before .before in let b = j .before in let a = b .before in
-    let n = ranged a in
+    let g = l .before .before .before in let j = g .before .before in let p = passed (j .before) in
     let y = rw (l .before .capability .ensures) at (holds (l .live .ensures) (o .before .if3 .left)) in
     let e = holds (i .entries-inside .ensures) (h .before .if4 .left) in
     let k = sym (h .has-password .ensures) ∙ f .before .before .before .if5 .left in
-    based-done _ d _ _ _ refl n (ap not (b .if2 .left)) (j .judge .ensures) (g .pair .given .1) _ (lt-ltb _ _ (register-range _ _ _ _ n .base))
+    based-done _ d _ _ _ refl (p .0) (p .1) (j .judge .ensures) (g .pair .given .1) _ (lt-ltb _ _ (register-range _ _ _ _ (p .0) .base))
     (λ v s. rw (s .found, s .live, y, ← o .object-based .ensures, e, k, eq-eqb _ _ (f .if6 .left)))
     (λ v s. rw (s .found, ← o .object-based .ensures, ← c .before .before .registration .ensures, ← c .before .with-registration .ensures)) (c .becomes .ensures)))

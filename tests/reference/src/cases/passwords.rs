@@ -47,6 +47,7 @@ pub(super) const PASSWORDS: &[Written] = &[
             ("0,RG,1,26,0,11,8192", "5,0"),
             ("0,RG,1,26,0,11,8191", "8,0"),
             ("0,RG,1,26,0,11,64,127,64,64", "0,0"),
+            ("0,AP,1,26,1", "10,0"),
             ("0,WR,4,256", "0,0"),
             ("0,WR,5,26", "0,0"),
             // P is granted alone, by the registration's password.

@@ -5,7 +5,10 @@ use super::*;
 impl Generator {
     pub(super) fn add(&mut self, d: usize) {
         let Some(object) = self.owned(d) else { return };
-        let (password, mode) = (self.new_password(&object), self.mode());
+        let (password, mode) = match &object.registration {
+            Some(r) if self.random.percent(10) => (r.password, self.mode()),
+            _ => (self.new_password(&object), self.mode()),
+        };
         let page = self.base(&object);
         self.push(d, "AP", &[page, password, mode]);
         if self.random.percent(70) {

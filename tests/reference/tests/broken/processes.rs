@@ -24,9 +24,9 @@ fn compare_as_a_process() {
         .starts_with("no difference in "));
 
     // Too few lines to reach every answer.
-    let (status, text) = compare(&[reference, "2", "100", "7"]);
+    let (status, text) = compare(&[reference, "2", "10", "7"]);
     assert_eq!(status, Some(1), "{text}");
-    assert!(text.contains("generated, seeds 7 to 8: 2 inputs, 200 lines\n"));
+    assert!(text.contains("generated, seeds 7 to 8: 2 inputs, 20 lines\n"));
     assert!(text.contains("never reached by the generated lines: CA with answer 11\n"));
 
     // Another program altogether.
