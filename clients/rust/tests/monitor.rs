@@ -72,6 +72,12 @@ fn slots_and_locks() {
     monitor.lock(3, WHOLE_LOCK).unwrap();
     assert_eq!(monitor.get(3), slots(&[96, 32], 1, true));
     assert_eq!(monitor.remove(3, 1), Err(Refusal::Locked));
+    assert_eq!(monitor.add_password(3, 96, 5, 1), Err(Refusal::Locked));
+    assert_eq!(
+        monitor.register(3, 96, 5, home, &[6144]),
+        Err(Refusal::Locked)
+    );
+    assert_eq!(monitor.drop_password(3, 96, 5), Err(Refusal::Missing));
     assert_eq!(monitor.get(4), Err(Refusal::NoDomain));
 }
 

@@ -2,5 +2,5 @@ pub mod Runs
 pub mod Marked
 pub mod Nested
 pub mod Locks
-pub mod Sealed
+pub mod WholeLock
 pub mod Ends

@@ -48,12 +48,12 @@ abbrev pub AddsNothing : Table → Table → Type 0
 AddsNothing t t′ = (base : ℕ) → 0 < objectBased t base .pages → Within (objectBased t base) (objectBased t′ base)
 
 -- so of each call of the domain along a list
-abbrev pub HandsOutNothing : ℕ → World → List Event → Type 0
-HandsOutNothing d w [] = Unit {0}
-HandsOutNothing d w (e ∷ es) =
-    (e .domain ≡ d → AddsNothing (w .state .table) (resultOf w e .outcome .state .table)) × HandsOutNothing d (worldOf (resultOf w e)) es
+abbrev pub OwnAddNothing : ℕ → World → List Event → Type 0
+OwnAddNothing d w [] = Unit {0}
+OwnAddNothing d w (e ∷ es) =
+    (e .domain ≡ d → AddsNothing (w .state .table) (resultOf w e .outcome .state .table)) × OwnAddNothing d (worldOf (resultOf w e)) es
 
 -- what the whole lock of a domain comes to along a list
-pub record Sealed (d : ℕ) (w : World) (es : List Event) : Type 0 where
+pub record WholeLockHolds (d : ℕ) (w : World) (es : List Event) : Type 0 where
   pub keeps : Keeps (domainAt (w .state) d) (domainAt (final w es .state) d)
-  pub hands-out : HandsOutNothing d w es
+  pub adds : OwnAddNothing d w es

@@ -9,9 +9,9 @@ mod lists;
 mod objects;
 mod passwords;
 mod ranges;
-mod sealed;
 mod slots;
 mod unreadable;
+mod whole_lock;
 
 pub use unreadable::unreadable;
 
@@ -136,7 +136,7 @@ pub fn paper() -> Vec<Case> {
         objects::OBJECTS,
         passwords::PASSWORDS,
         slots::SLOTS,
-        sealed::SEALED,
+        whole_lock::WHOLE_LOCK,
         objects::ESTATES,
         ranges::RANGES,
         ends::ENDS,

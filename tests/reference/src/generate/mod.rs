@@ -15,10 +15,10 @@ mod passwords;
 mod plans;
 mod procedures;
 mod registrations;
-mod sealed;
 mod slots;
 mod stray;
 mod values;
+mod whole_lock;
 mod zero_pairs;
 
 pub use kinds::{edges, kind, Kind};

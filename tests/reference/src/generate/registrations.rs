@@ -61,10 +61,11 @@ impl Generator {
         if self.random.percent(70) {
             let at = self.random.index(entries.len());
             let words = object.words();
-            entries[at] = match self.random.below(4) {
-                0 => words.end % WORDS,
-                1 => words.start.saturating_sub(1),
-                2 => words.end,
+            entries[at] = match self.random.below(16) {
+                0..=3 => words.end % WORDS,
+                4..=7 => words.start.saturating_sub(1),
+                8..=11 => words.end,
+                12 => TOP,
                 _ => self.likely(Kind::Address),
             };
         }

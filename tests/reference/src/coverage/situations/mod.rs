@@ -9,8 +9,8 @@ mod objects;
 mod passwords;
 mod procedures;
 mod registrations;
-mod sealed;
 mod slots;
+mod whole_lock;
 
 use super::seen::Seen;
 use crate::monitor::*;
@@ -27,7 +27,7 @@ const GROUPS: [&[Situation]; 11] = [
     passwords::PASSWORDS,
     registrations::REGISTRATIONS,
     slots::SLOTS,
-    sealed::SEALED,
+    whole_lock::WHOLE_LOCK,
     procedures::PROCEDURES,
     faults::FAULTS,
 ];

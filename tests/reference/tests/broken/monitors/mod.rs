@@ -6,10 +6,10 @@ mod judging;
 mod objects;
 mod pages;
 mod procedures;
-mod sealed;
 mod shams;
 mod slots;
 mod traps;
+mod whole_lock;
 
 use crate::found;
 use refmonitor::compare::Ran;
@@ -41,7 +41,7 @@ fn broken() -> impl Iterator<Item = Broken> {
         ends::ENDS,
         objects::OBJECTS,
         slots::SLOTS,
-        sealed::SEALED,
+        whole_lock::WHOLE_LOCK,
         procedures::PROCEDURES,
         boots::BOOTS,
     ];

@@ -1,4 +1,4 @@
--- The whole lock and the calls that hand out keys, AP and RG, as computed runs behind the listing of document 01: document 02, T-03.
+-- The whole lock and the calls on objects, as computed runs behind the listing of document 01: document 02, T-03.
 use Prim.Native.Nat.{ℕ}
 use mathlib.Core.Path.{_≡_, refl}
 use mathlib.Core.List.{List, [], _∷_, _++_}
@@ -18,8 +18,8 @@ abbrev registers : Call
 registers =
     OnObject (Register 1 23 (record { page = 0; password = 11 }) (record { count = 1; first = 64; second = 0; third = 0; fourth = 0 }))
 
-abbrev pub sealedRuns : List (List Exchange)
-sealedRuns =
+abbrev pub wholeLockRuns : List (List Exchange)
+wholeLockRuns =
     -- AP and RG are stopped, by 6 behind 5; CR, DP, DL, LO and RT are not
     (by 0 (adds 22 1) (0 ∷ 0 ∷ [])
     ∷ by 0 (OnDomain (Lock 255)) (0 ∷ 0 ∷ [])
@@ -53,9 +53,9 @@ sealedRuns =
     ∷ [])
     ∷ []
 
-computed : computedAfter searched sealedRuns ≡ expectedAfter sealedRuns
+computed : computedAfter searched wholeLockRuns ≡ expectedAfter wholeLockRuns
 unfolding answersBy
 computed = refl
 
-pub sealed-answers : answersAfter sealedRuns ≡ expectedAfter sealedRuns
-sealed-answers = by-computing sealedRuns computed
+pub whole-lock : answersAfter wholeLockRuns ≡ expectedAfter wholeLockRuns
+whole-lock = by-computing wholeLockRuns computed

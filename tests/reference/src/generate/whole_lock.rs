@@ -24,12 +24,12 @@ impl Generator {
         if let Some(list) = self.list() {
             probes.push(Line::new(d as u64, "IN", &[1, list.page, list.password]));
         }
-        let keys = self.keys(d);
+        let owner_calls = self.owner_calls(d);
         for _ in 0..3 + self.random.below(4) {
             let from = if self.random.percent(50) {
                 &probes
             } else {
-                &keys
+                &owner_calls
             };
             if !from.is_empty() {
                 let at = self.random.index(from.len());
@@ -38,12 +38,12 @@ impl Generator {
         }
         self.push(d, "RT", &[]);
         self.push(d, "GT", &[]);
-        self.queue.extend(keys.into_iter().take(1));
+        self.queue.extend(owner_calls.into_iter().take(1));
     }
 
-    /// Calls that hand out keys of an object and take them away, the domain's
-    /// own object most of the time.
-    fn keys(&mut self, d: usize) -> Vec<Line> {
+    /// Calls on an object that add passwords and registrations and take them
+    /// away; most of the time it is one that the domain owns.
+    fn owner_calls(&mut self, d: usize) -> Vec<Line> {
         let own = self.random.percent(80);
         let Some(object) = self.find(|m, o| {
             let owns = m.granting_pair(d, o, OWNER).is_some();
@@ -53,17 +53,17 @@ impl Generator {
         };
         let (domain, base) = (d as u64, object.base);
         let (password, mode) = (self.new_password(&object), self.mode());
-        let mut keys = vec![
+        let mut calls = vec![
             Line::new(domain, "AP", &[base, password, mode]),
             Line::new(domain, "AP", &[base, password, 32 | mode]),
             Line::new(domain, "DL", &[base]),
         ];
         for known in object.passwords.iter().map(|p| p.word) {
-            keys.push(Line::new(domain, "AP", &[base, known, mode]));
-            keys.push(Line::new(domain, "DP", &[base, known]));
+            calls.push(Line::new(domain, "AP", &[base, known, mode]));
+            calls.push(Line::new(domain, "DP", &[base, known]));
         }
         if let Some(registration) = &object.registration {
-            keys.push(Line::new(domain, "DP", &[base, registration.password]));
+            calls.push(Line::new(domain, "DP", &[base, registration.password]));
         }
         if let Some(list) = self.list() {
             let (inside, outside) = (object.words().start, object.words().end % WORDS);
@@ -73,9 +73,9 @@ impl Generator {
                 (0, inside),
             ] {
                 let args = [base, password, list.page, word, entry];
-                keys.push(Line::new(domain, "RG", &args));
+                calls.push(Line::new(domain, "RG", &args));
             }
         }
-        keys
+        calls
     }
 }

@@ -2,7 +2,7 @@
 
 use super::*;
 
-pub(super) const SEALED: &[Broken] = &[
+pub(super) const WHOLE_LOCK: &[Broken] = &[
     ("AP passes under the whole lock", |m, _, d, c| match c {
         Call::Ap { .. } => without_lock(m, d, c),
         _ => m.call(d, c),

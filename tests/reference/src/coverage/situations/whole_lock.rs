@@ -2,7 +2,7 @@
 
 use super::*;
 
-pub(super) const SEALED: &[Situation] = &[
+pub(super) const WHOLE_LOCK: &[Situation] = &[
     ("an owner's AP stopped by the whole lock", |s| {
         stopped_add(s) && s.owned().is_some()
     }),

@@ -1,9 +1,9 @@
-//! The whole lock and the calls that hand out keys: AP and RG are stopped by
-//! it, DP and the others are not.
+//! The whole lock and the calls on objects: AP and RG are stopped by it, DP and
+//! the others are not.
 
 use super::{Start, Written};
 
-pub(super) const SEALED: &[Written] = &[
+pub(super) const WHOLE_LOCK: &[Written] = &[
     (
         "the whole lock stops AP and RG",
         Start::Listing,
