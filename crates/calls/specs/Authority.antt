@@ -18,12 +18,16 @@ use Rattle.calls.specs.declared.Call.{Call}
 abbrev pub answered : World → ℕ → Call → ℕ
 answered w d c = numberOf (step w d c .outcome .answer)
 
--- checks 2 to 6 hold, so that the call is judged
-pub record Reaches (w : World) (d : ℕ) (c : Call) : Type 0 where
+-- checks 2 to 5 hold, so that the locks are looked at
+pub record Comes (w : World) (d : ℕ) (c : Call) : Type 0 where
   pub long : length (w .words) ≡ 8192
   pub sound-state : sound (w .state) ≡ true
   pub domain : d < 4
   pub range : inRange c ≡ true
+
+-- checks 2 to 6 hold, so that the call is judged
+pub record Reaches (w : World) (d : ℕ) (c : Call) : Type 0 where
+  pub comes : Comes w d c
   pub unlocks : unlocked c (domainAt (w .state) d .active) ≡ true
 
 -- a capability with all the rights stands in the domain's live lists, with no denying one before it

@@ -1,13 +1,8 @@
 -- What the locks stop: document 01, "In checking order", check 6, with the two calls that document 02, T-03, adds.
-use Prim.Native.Nat.{ℕ, _<_}
-use mathlib.Core.Path.{_≡_}
+use Prim.Native.Nat.{ℕ}
 use mathlib.Core.Bool.{Bool, true, false, _&&_, _||_}
 use lib.Dec.{ltb}
-use lib.ListN.{length}
-use Rattle.soundness.specs.Sound.{sound}
 use Rattle.state.specs.declared.Frame.{Frame}
-use Rattle.calls.specs.View.{World}
-use Rattle.calls.specs.Rules.{inRange}
 use Rattle.calls.specs.declared.Call.{Call}
 use Rattle.calls.specs.declared.Call.the-variants.{OnStore, OnObject, OnDomain}
 use Rattle.calls.specs.declared.ObjectCall.the-variants.{Create, Delete, AddPassword, DropPassword, Register}
@@ -42,10 +37,3 @@ slotsStop n (OnDomain PdxReturn) = false
 -- the locks of a frame stop a call
 abbrev pub locksStop : Frame → Call → Bool
 locksStop f c = slotsStop (f .locked) c || (wholeStops c && f .whole)
-
--- checks 2 to 5 hold, so that the locks are looked at
-pub record Comes (w : World) (d : ℕ) (c : Call) : Type 0 where
-  pub long : length (w .words) ≡ 8192
-  pub sound-state : sound (w .state) ≡ true
-  pub domain : d < 4
-  pub range : inRange c ≡ true

@@ -49,8 +49,8 @@ module _ (w : World) (d : ℕ) (c : Call) where
   front-hold = (
     λ h.
         let (long, (right, (domain, (range, (unlocks, _))))) = h in
-        record { long = eqb-true _ 8192 long; sound-state = right; domain = ltb-true d 4 domain; range = range; unlocks = unlocks },
-    λ r. (eq-eqb _ 8192 (r .long), (r .sound-state, (lt-ltb d 4 (r .domain), (r .range, (r .unlocks, tt))))),
+        record { comes = record { long = eqb-true _ 8192 long; sound-state = right; domain = ltb-true d 4 domain; range = range }; unlocks = unlocks },
+    λ r. let m = r .comes in (eq-eqb _ 8192 (m .long), (m .sound-state, (lt-ltb d 4 (m .domain), (m .range, (r .unlocks, tt))))),
   )
 
   sevens-hold : AllHold sevens ↔ Authorised w d c

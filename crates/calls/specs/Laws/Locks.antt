@@ -22,8 +22,8 @@ use Rattle.judge.specs.declared.Judgement.the-variants.{Granted, Refused}
 use Rattle.calls.specs.View.{World, View, Want, nothing, rights, Check, check, firstFailing, foundBy, search}
 use Rattle.calls.specs.Rules.{inRange, unlocked, wanted, early, late, checks, view, changes}
 use Rattle.calls.specs.Step.{step, world, worldOf, storeCheck, soundCheck}
-use Rattle.calls.specs.Authority.{answered}
-use Rattle.calls.specs.Locks.{wholeStops, slotsStop, locksStop, Comes}
+use Rattle.calls.specs.Authority.{answered, Comes}
+use Rattle.calls.specs.Locks.{wholeStops, slotsStop, locksStop}
 use Rattle.calls.specs.Laws.Order.{allChecks, AllHold, late-ascends}
 use Rattle.calls.specs.Laws.Levels.{number, past-lower, level-fails, Below}
 use Rattle.calls.specs.Laws.Granted.{step-number}
