@@ -17,7 +17,7 @@ use Rattle.calls.specs.View.{World, Judging}
 use Rattle.calls.specs.Arguments.{runFree, isEntry}
 use Rattle.calls.specs.Changes.{frameFields, registration, zeroed}
 use Rattle.calls.specs.Rules.{inRange, unlocked, early, view, late, checks, touched, changes}
-use Rattle.calls.specs.Step.{Result, uncheckedBy, step, unchecked, worldOf, answerOf}
+use Rattle.calls.specs.Step.{uncheckedBy, step, unchecked, worldOf, answerOf}
 use Rattle.calls.specs.Boot.{homeEstate, homeDomain, bootState, homePair, bootWords, homesOk, boot}
 use Rattle.calls.specs.Laws.Unchecked.{sound-unchecked}
 use Rattle.calls.specs.Laws.Sound.{unchecked-sound}

@@ -2,11 +2,10 @@
 use Prim.Native.Nat.{ℕ}
 use mathlib.Core.Path.{_≡_, refl, sym, _∙_}
 use mathlib.Core.Bool.{true, true≢false}
-use mathlib.Core.List.{List, [], _∷_, _++_}
+use mathlib.Core.List.{List, [], _++_}
 use mathlib.Core.Logic.{_↔_, Iff·rfl, Iff·trans, Iff·and, Iff·not}
 use mathlib.Core.Option.{Option, none, some}
 use native.Mathlib.Omega.{arith}
-use borrow.Author.Tests.{eqb-true, eq-eqb, ltb-true, lt-ltb}
 use Rattle.rights.specs.Modes.{read, write, execute, destroy, pdx, owner}
 use Rattle.state.specs.Places.{domainAt}
 use Rattle.clists.specs.Clist.{live}
@@ -16,14 +15,12 @@ use Rattle.judge.specs.declared.Target.{Target}
 use Rattle.judge.specs.declared.Target.the-variants.{Address, Base}
 use Rattle.judge.specs.declared.Judgement.{Judgement}
 use Rattle.judge.specs.declared.Judgement.the-variants.{Granted, Refused}
-use Rattle.calls.specs.Answers.{numberOf}
-use Rattle.calls.specs.View.{World, Want, nothing, rights, View, Check, firstFailing, search, foundBy, passes, isSome}
+use Rattle.calls.specs.View.{World, Want, nothing, rights, View, Check, search, foundBy, passes, isSome}
 use Rattle.calls.specs.Changes.{capability}
 use Rattle.calls.specs.Rules.{rule, wanted, presented, early, grantedCheck, presentedCheck, late, checks, view}
-use Rattle.calls.specs.Step.{stepBy, concluded, storeCheck, soundCheck}
 use Rattle.calls.specs.Authority.{answered, Reaches, GrantableTo, WantGrantable, Authorised, DoneWhen, SevenUnless}
-use Rattle.calls.specs.Laws.Order.{allChecks, AllHold, rest-ascends, done-hold}
-use Rattle.calls.specs.Laws.Levels.{number, all-append, past-lower, level-fails, Below, Level}
+use Rattle.calls.specs.Laws.Order.{AllHold, rest-ascends, done-hold}
+use Rattle.calls.specs.Laws.Levels.{all-append, Level, answers-level, toFive, six, comes-hold}
 use Rattle.calls.specs.declared.Call.{Call}
 use Rattle.calls.specs.declared.Call.the-variants.{OnStore, OnObject, OnDomain}
 use Rattle.calls.specs.declared.Access.the-variants.{Read, Write, Execute, Lookup}
@@ -31,12 +28,11 @@ use Rattle.calls.specs.declared.ObjectCall.the-variants.{Delete, AddPass
 use Rattle.calls.specs.declared.DomainCall.the-variants.{Insert, PdxCall}
 use Rattle.calls.specs.declared.Presented.{Presented}
 use Rattle.calls.specs.declared.Entries.{Entries}
-use Rattle.calls.specs.declared.Refusal.{Refusal}
 
 module _ (w : World) (d : ℕ) (c : Call) where
   -- checks 2 to 6, and those of number 7
   abbrev front : List Check
-  front = storeCheck w ∷ soundCheck w ∷ early d c (domainAt (w .state) d .active)
+  front = toFive w d c ++ six w d c
 
   abbrev sevens : List Check
   sevens = grantedCheck (wanted c) (view judged w d c) ++ presentedCheck (presented c) (view judged w d c)
@@ -45,13 +41,9 @@ module _ (w : World) (d : ℕ) (c : Call) where
   later = rule c .rest d (view judged w d c)
 
   front-hold : AllHold front ↔ Reaches w d c
-  unfolding early
-  front-hold = (
-    λ h.
-        let (long, (right, (domain, (range, (unlocks, _))))) = h in
-        record { comes = record { long = eqb-true _ 8192 long; sound-state = right; domain = ltb-true d 4 domain; range = range }; unlocks = unlocks },
-    λ r. let m = r .comes in (eq-eqb _ 8192 (m .long), (m .sound-state, (lt-ltb d 4 (m .domain), (m .range, (r .unlocks, tt))))),
-  )
+  front-hold =
+      Iff·trans (all-append (toFive w d c) (six w d c))
+      (Iff·trans (Iff·and (comes-hold w d c) Iff·rfl) (λ h. record { comes = h .0; unlocks = h .1 .0 }, λ r. (r .comes, (r .unlocks, tt))))
 
   sevens-hold : AllHold sevens ↔ Authorised w d c
   unfolding view
@@ -85,18 +77,9 @@ module _ (w : World) (d : ℕ) (c : Call) where
       go (rights target r) none = (refl, tt)
       go (rights target r) (some l) = (refl, (refl, tt))
 
-  -- the number of the first check that fails
-  pub step-number : answered w d c ≡ number (firstFailing (allChecks w d c))
-  unfolding stepBy
-  step-number = go (firstFailing (allChecks w d c))
-    where
-      go : (o : Option Refusal) → numberOf (concluded o w d c (view judged w d c) .outcome .answer) ≡ number o
-      go none = refl
-      go (some r) = refl
-
   -- EVERY CALL is done exactly where it comes to be judged, is authorised, and passes the checks from 8 on;
   pub answers-done : answered w d c ≡ 0 ↔ (Reaches w d c × (Authorised w d c × AllHold later))
-  unfolding checks late view
+  unfolding checks early late view
   answers-done =
       Iff·trans (done-hold w d c)
       (Iff·trans (all-append front (sevens ++ later)) (Iff·and front-hold (Iff·trans (all-append sevens later) (Iff·and sevens-hold Iff·rfl))))
@@ -105,12 +88,10 @@ module _ (w : World) (d : ℕ) (c : Call) where
   pub answers-seven : answered w d c ≡ 7 ↔ (Reaches w d c × (Authorised w d c → ⊥))
   unfolding checks early late view
   answers-seven =
-      Iff·trans (λ h. sym step-number ∙ h, λ h. step-number ∙ h)
-      (Iff·trans (past-lower 7 front (sevens ++ later) lower)
-      (Iff·and front-hold (Iff·trans (level-fails 7 sevens later (omega arith) sevens-level (rest-ascends d c (view judged w d c))) (Iff·not sevens-hold))))
-    where
-      lower : Below 7 front
-      lower = (omega arith, (omega arith, (omega arith, (omega arith, (omega arith, tt)))))
+      Iff·trans
+      (answers-level w d c 7 front sevens later refl (omega arith) (omega arith, (omega arith, (omega arith, (omega arith, (omega arith, tt))))) sevens-level
+      (rest-ascends d c (view judged w d c)))
+      (Iff·and front-hold (Iff·not sevens-hold))
 
 module _ (w : World) (d : ℕ) where
   -- a call that wants rights and presents nothing is authorised exactly where they are grantable

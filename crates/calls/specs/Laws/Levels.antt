@@ -1,18 +1,25 @@
--- Lists of checks by their numbers: which number a list answers where its checks come in order.
+-- Lists of checks by their numbers: which number a list answers where its checks come in order, and so a call.
 use Prim.Native.Nat.{ℕ, suc, _<_, _≤_}
-use mathlib.Core.Path.{_≡_, refl, sym}
+use mathlib.Core.Path.{_≡_, refl, sym, ap, _∙_}
 use mathlib.Core.Bool.{true, false, true≢false}
 use mathlib.Core.List.{List, [], _∷_, _++_}
-use mathlib.Core.Logic.{_↔_}
+use mathlib.Core.Logic.{_↔_, Iff·rfl, Iff·trans, Iff·and}
 use mathlib.Core.Option.{Option, none, some}
 use native.Mathlib.Omega.{arith}
-use lib.Dec.{leb}
-use borrow.Author.Tests.{leb-true}
+use lib.Dec.{leb, ltb}
+use borrow.Author.Tests.{leb-true, eqb-true, eq-eqb, ltb-true, lt-ltb}
 use Rattle.bounded.specs.Bools.{and-left, and-right}
-use Rattle.calls.specs.Answers.{refusalNumber}
-use Rattle.calls.specs.View.{Check, check, firstFailing}
-use Rattle.calls.specs.Laws.Order.{AllHold, ascending}
+use Rattle.state.specs.Places.{domainAt}
+use Rattle.judge.specs.Judged.{judged}
+use Rattle.calls.specs.Answers.{refusalNumber, numberOf}
+use Rattle.calls.specs.View.{World, Check, check, firstFailing}
+use Rattle.calls.specs.Rules.{inRange, unlocked, view}
+use Rattle.calls.specs.Step.{stepBy, concluded, storeCheck, soundCheck}
+use Rattle.calls.specs.Authority.{answered, Comes}
+use Rattle.calls.specs.Laws.Order.{allChecks, AllHold, ascending}
+use Rattle.calls.specs.declared.Call.{Call}
 use Rattle.calls.specs.declared.Refusal.{Refusal}
+use Rattle.calls.specs.declared.Refusal.the-variants.{NoDomain, OutOfRange, Locked}
 
 -- all of two lists hold exactly where all of each do
 pub all-append : (xs ys : List Check) → AllHold (xs ++ ys) ↔ (AllHold xs × AllHold ys)
@@ -61,3 +68,33 @@ level-fails n [] back p l a = (λ h. absurd (omega (arith, from-above (suc n) n 
 level-fails n (check r true ∷ same) back p l a =
     let more = level-fails n same back p (l .1) a in (λ h t. more .0 h (t .1), λ h. more .1 (λ t. h (refl, t)))
 level-fails n (check r false ∷ same) back p l a = (λ h t. true≢false (sym (t .0)), λ h. l .0)
+
+module _ (w : World) (d : ℕ) (c : Call) where
+  -- a call is answered with the number of the first check that fails
+  pub step-number : answered w d c ≡ number (firstFailing (allChecks w d c))
+  unfolding stepBy
+  step-number = go (firstFailing (allChecks w d c))
+    where
+      go : (o : Option Refusal) → numberOf (concluded o w d c (view judged w d c) .outcome .answer) ≡ number o
+      go none = refl
+      go (some r) = refl
+
+  -- and so with `n` exactly where the checks of lower numbers hold, and those of that number do not all
+  pub answers-level : (n : ℕ) (front same back : List Check) → allChecks w d c ≡ front ++ (same ++ back) → 0 < n → Below n front → Level n same
+      → ascending (suc n) back ≡ true → answered w d c ≡ n ↔ (AllHold front × (AllHold same → ⊥))
+  answers-level n front same back e p b l a =
+      let s = step-number ∙ ap (λ cs. number (firstFailing cs)) e in
+      Iff·trans (λ h. sym s ∙ h, λ h. s ∙ h) (Iff·trans (past-lower n front (same ++ back) b) (Iff·and Iff·rfl (level-fails n same back p l a)))
+
+  -- checks 2 to 5, and check 6
+  abbrev pub toFive : List Check
+  toFive = storeCheck w ∷ soundCheck w ∷ check NoDomain (ltb d 4) ∷ check OutOfRange (inRange c) ∷ []
+
+  abbrev pub six : List Check
+  six = check Locked (unlocked c (domainAt (w .state) d .active)) ∷ []
+
+  pub comes-hold : AllHold toFive ↔ Comes w d c
+  comes-hold = (
+    λ h. let (long, (right, (domain, (range, _)))) = h in record { long = eqb-true _ 8192 long; sound-state = right; domain = ltb-true d 4 domain; range = range },
+    λ r. (eq-eqb _ 8192 (r .long), (r .sound-state, (lt-ltb d 4 (r .domain), (r .range, tt)))),
+  )

@@ -2,13 +2,12 @@
 use Prim.Native.Nat.{ℕ, _<_}
 use mathlib.Core.Path.{_≡_, refl, sym, ap, _∙_}
 use mathlib.Core.Bool.{Bool, true, false, not, _&&_, _||_, true≢false, and-true, and-false, or-true, or-false}
-use mathlib.Core.List.{List, [], _∷_, _++_}
 use mathlib.Core.Logic.{_⊎_, inl, inr, _↔_, Iff·rfl, Iff·trans, Iff·and}
 use native.Mathlib.Omega.{arith}
 use lib.Dec.{leb, ltb}
 use lib.ListN.{length}
 use lib.Seq.{getD-set-same}
-use borrow.Author.Tests.{eqb-true, eq-eqb, ltb-true, lt-ltb, le-ltb, leb-true, leb-false}
+use borrow.Author.Tests.{lt-ltb, le-ltb, leb-true, leb-false, not-true}
 use Rattle.state.specs.Places.{noDomain, domainAt}
 use Rattle.state.specs.Update.{lockSlot, withActive, withDomain}
 use Rattle.state.specs.declared.Frame.{Frame}
@@ -19,22 +18,20 @@ use Rattle.judge.specs.Laws.Local.{slots-local}
 use Rattle.judge.specs.declared.Target.{Target}
 use Rattle.judge.specs.declared.Judgement.{Judgement}
 use Rattle.judge.specs.declared.Judgement.the-variants.{Granted, Refused}
-use Rattle.calls.specs.View.{World, View, Want, nothing, rights, Check, check, firstFailing, foundBy, search}
-use Rattle.calls.specs.Rules.{inRange, unlocked, wanted, early, late, checks, view, changes}
-use Rattle.calls.specs.Step.{step, world, worldOf, storeCheck, soundCheck}
+use Rattle.calls.specs.View.{World, View, Want, nothing, rights, firstFailing, foundBy, search}
+use Rattle.calls.specs.Rules.{unlocked, wanted, early, late, checks, view, changes}
+use Rattle.calls.specs.Step.{step, world, worldOf}
 use Rattle.calls.specs.Authority.{answered, Comes}
 use Rattle.calls.specs.Locks.{wholeStops, slotsStop, locksStop}
 use Rattle.calls.specs.Laws.Order.{allChecks, AllHold, late-ascends}
-use Rattle.calls.specs.Laws.Levels.{number, past-lower, level-fails, Below}
-use Rattle.calls.specs.Laws.Granted.{step-number}
-use Rattle.calls.specs.Laws.Passed.{Refuses, Does, step-cases}
+use Rattle.calls.specs.Laws.Levels.{number, step-number, answers-level, toFive, six, comes-hold}
+use Rattle.calls.specs.Laws.Passed.{Passes, Refuses, Does, step-cases}
 use Rattle.calls.specs.Laws.Sound.{step-sound}
 use Rattle.calls.specs.declared.Call.{Call}
 use Rattle.calls.specs.declared.Call.the-variants.{OnStore, OnObject, OnDomain}
 use Rattle.calls.specs.declared.Access.the-variants.{Read, Write, Execute, Lookup}
 use Rattle.calls.specs.declared.ObjectCall.the-variants.{Create, Delete, AddPassword, DropPassword, Register}
 use Rattle.calls.specs.declared.DomainCall.the-variants.{Insert, Remove, Get, Lock, PdxCall, PdxReturn}
-use Rattle.calls.specs.declared.Refusal.the-variants.{NoDomain, OutOfRange, Locked}
 
 -- a slot from the locked count on, without the whole lock
 from-locked : (i n : ℕ) (b : Bool) → (leb n i && not b) ≡ not (ltb i n || b)
@@ -85,23 +82,10 @@ module _ (w : World) (d : ℕ) (c : Call) where
   abbrev frame : Frame
   frame = domainAt (w .state) d .active
 
-  -- checks 2 to 5, and check 6
-  abbrev front : List Check
-  front = storeCheck w ∷ soundCheck w ∷ check NoDomain (ltb d 4) ∷ check OutOfRange (inRange c) ∷ []
-
-  abbrev six : List Check
-  six = check Locked (unlocked c frame) ∷ []
-
-  front-hold : AllHold front ↔ Comes w d c
-  front-hold = (
-    λ h. let (long, (right, (domain, (range, _)))) = h in record { long = eqb-true _ 8192 long; sound-state = right; domain = ltb-true d 4 domain; range = range },
-    λ r. (eq-eqb _ 8192 (r .long), (r .sound-state, (lt-ltb d 4 (r .domain), (r .range, tt)))),
-  )
-
-  six-fails : (AllHold six → ⊥) ↔ locksStop frame c ≡ true
+  six-fails : (AllHold (six w d c) → ⊥) ↔ locksStop frame c ≡ true
   six-fails = go (locksStop frame c) (unlocked-is c frame)
     where
-      go : (b : Bool) → unlocked c frame ≡ not b → (AllHold six → ⊥) ↔ b ≡ true
+      go : (b : Bool) → unlocked c frame ≡ not b → (AllHold (six w d c) → ⊥) ↔ b ≡ true
       go true e = (λ h. refl, λ h t. true≢false (sym (t .0) ∙ e))
       go false e = (λ h. absurd (h (e, tt)), λ h. absurd (true≢false (sym h)))
 
@@ -109,12 +93,10 @@ module _ (w : World) (d : ℕ) (c : Call) where
   pub answers-six : answered w d c ≡ 6 ↔ (Comes w d c × (locksStop frame c ≡ true))
   unfolding checks early view
   answers-six =
-      Iff·trans (λ h. sym (step-number w d c) ∙ h, λ h. step-number w d c ∙ h)
-      (Iff·trans (past-lower 6 front (six ++ late d c (view judged w d c)) lower)
-      (Iff·and front-hold (Iff·trans (level-fails 6 six (late d c (view judged w d c)) (omega arith) (refl, tt) (late-ascends d c (view judged w d c))) six-fails)))
-    where
-      lower : Below 6 front
-      lower = (omega arith, (omega arith, (omega arith, (omega arith, tt))))
+      Iff·trans
+      (answers-level w d c 6 (toFive w d c) (six w d c) (late d c (view judged w d c)) refl (omega arith) (omega arith, (omega arith, (omega arith, (omega arith, tt)))) (refl, tt)
+      (late-ascends d c (view judged w d c)))
+      (Iff·and (comes-hold w d c) six-fails)
 
   -- UNDER THE WHOLE LOCK 6 is answered to AP, RG, IN, RM and CA that pass checks 2 to 5, and to no other call
   pub whole-six : frame .whole ≡ true → answered w d c ≡ 6 ↔ (Comes w d c × (wholeStops c ≡ true))
@@ -123,6 +105,12 @@ module _ (w : World) (d : ℕ) (c : Call) where
   -- WITHOUT IT to IN and RM at a locked slot
   pub slots-six : frame .whole ≡ false → answered w d c ≡ 6 ↔ (Comes w d c × (slotsStop (frame .locked) c ≡ true))
   slots-six h = Iff·trans answers-six (Iff·and Iff·rfl (λ e. sym (whole-clear frame c h) ∙ e, λ e. whole-clear frame c h ∙ e))
+
+-- a call that the whole lock stops does not pass under it
+pub whole-passes : (w : World) (d : ℕ) (c : Call) → domainAt (w .state) d .active .whole ≡ true → Passes w d c → wholeStops c ≡ false
+whole-passes w d c h p =
+    let f = domainAt (w .state) d .active in
+    not-true (wholeStops c) (ap not (sym (whole-set f c h)) ∙ sym (unlocked-is c f) ∙ p .unlocks)
 
 -- from 7 on no check looks at the whole lock
 abbrev underLock : View → View

@@ -1,15 +1,15 @@
 -- What a domain under its whole lock adds to objects: no password, and no registration.
 use Prim.Native.Nat.{ℕ, _/_, _<_}
-use mathlib.Core.Path.{_≡_, refl, sym, ap, _∙_}
-use mathlib.Core.Bool.{Bool, true, false, not, cond, _&&_, true≢false}
+use mathlib.Core.Path.{_≡_, refl, ap, _∙_}
+use mathlib.Core.Bool.{Bool, true, false, not, cond, true≢false}
 use mathlib.Core.Logic.{_⊎_, inl, inr}
 use native.Mathlib.Omega.{arith}
-use lib.Dec.{ltb, eqb}
-use borrow.Author.Tests.{eqb-false, ltb-true, eq-eqb}
+use lib.Dec.{eqb}
+use borrow.Author.Tests.{eqb-false, eq-eqb}
 use Rattle.bounded.specs.Bools.{and-left, and-right, and-both, cond-ind, same-or-not}
 use Rattle.state.specs.Places.{noPassword, freeRegistration, freeObject, objectAt, estateAt, domainAt}
 use Rattle.state.specs.Extent.{liesIn}
-use Rattle.state.specs.Lookup.{hasBase, based, objectBased, placeBased, placeWhere, freePlace, placeOf, ordinaryMode, hasPassword}
+use Rattle.state.specs.Lookup.{hasBase, based, objectBased, placeBased, placeWhere, placeOf, ordinaryMode, hasPassword}
 use Rattle.state.specs.Update.{newObject, withRegistration, dropPassword}
 use Rattle.state.specs.Laws.Extent.{zero-not, drop-run}
 use Rattle.state.specs.Laws.Lookup.{base-single, pages-stands, based-base}
@@ -27,10 +27,11 @@ use Rattle.judge.specs.Judged.{judged}
 use Rattle.judge.specs.declared.Target.the-variants.{Base}
 use Rattle.calls.specs.View.{World}
 use Rattle.calls.specs.Changes.{applyAll}
-use Rattle.calls.specs.Rules.{inRange, unlocked, late, view, changes}
+use Rattle.calls.specs.Rules.{late, view, changes}
 use Rattle.calls.specs.Step.{step}
 use Rattle.calls.specs.Laws.Passed.{Passes, Refuses, Does, step-cases}
 use Rattle.calls.specs.Laws.Searched.{was-granted}
+use Rattle.calls.specs.Laws.Locks.{whole-passes}
 use Rattle.calls.specs.Laws.Places.Objects.{create-pages, new-home, new-first, replaced}
 use Rattle.calls.specs.declared.Call.{Call}
 use Rattle.calls.specs.declared.Call.the-variants.{OnStore, OnObject, OnDomain}
@@ -38,7 +39,6 @@ use Rattle.calls.specs.declared.Access.the-variants.{Read, Write, Execute, Look
 use Rattle.calls.specs.declared.ObjectCall.the-variants.{Create, Delete, AddPassword, DropPassword, Register}
 use Rattle.calls.specs.declared.DomainCall.the-variants.{Insert, Remove, Get, Lock, PdxCall, PdxReturn}
 use Rattle.runs.specs.WholeLock.{WholeLocked, Within, AddsNothing}
-use Rattle.runs.specs.Laws.Kept.{stopped}
 
 -- an object that stays, and one that is gone
 within-refl : (o : Object) → Within o o
@@ -102,7 +102,7 @@ module _ (s : State) (h : sound s ≡ true) where
 module _ (w : World) (d : ℕ) (h : WholeLocked d w) where
   -- the changes of the domain's own calls
   own-adds : (c : Call) → sound (w .state) ≡ true → Passes w d c → AddsNothing (w .state .table) (applyAll (changes d c (view judged w d c)) w .state .table)
-  unfolding changes unlocked view late newObject
+  unfolding changes view late newObject
   own-adds (OnStore (Read a)) s p = adds-none _
   own-adds (OnStore (Write a x)) s p = adds-none _
   own-adds (OnStore (Execute a)) s p = adds-none _
@@ -115,7 +115,7 @@ module _ (w : World) (d : ℕ) (h : WholeLocked d w) where
   own-adds (OnObject (Delete b)) s p =
       let g = was-granted w (domainAt (w .state) d .active) (Base b) 8 (p .rest .0) in
       rw (g .judgement) (replaced-adds (w .state) s b freeObject (g .pages) (λ x. absurd (omega arith)) (within-free _))
-  own-adds (OnObject (AddPassword b k m)) s p = absurd (stopped _ h (p .unlocks))
+  own-adds (OnObject (AddPassword b k m)) s p = absurd (true≢false (whole-passes w d (OnObject (AddPassword b k m)) h p))
   own-adds (OnObject (DropPassword b k)) s p =
       let g = was-granted w (domainAt (w .state) d .active) (Base b) 15 (p .rest .0) in
       let o = objectBased (w .state .table) b in
@@ -123,7 +123,7 @@ module _ (w : World) (d : ℕ) (h : WholeLocked d w) where
       (replaced-adds (w .state) s b (dropPassword o k) (g .pages) (λ x. drop-run o k .base ∙ based-base (w .state .table) b (g .pages))
       (cond-ind (Within o) (hasBase b (dropPassword o k)) _ _
       (λ x. within-drop o (b / 32) k (based-ok (w .state) b s (g .pages)) (g .pages) (rw (g .judgement) at (p .rest .1 .0))) (λ x. within-free o)))
-  own-adds (OnObject (Register b k l es)) s p = absurd (stopped _ h (p .unlocks))
+  own-adds (OnObject (Register b k l es)) s p = absurd (true≢false (whole-passes w d (OnObject (Register b k l es)) h p))
   own-adds (OnDomain (Insert i l)) s p = adds-none _
   own-adds (OnDomain (Remove i)) s p = adds-none _
   own-adds (OnDomain Get) s p = adds-none _

@@ -1,12 +1,12 @@
 -- What a domain under its whole lock keeps: its lock, its slots and its saved domains, whoever calls.
 use Prim.Native.Nat.{ℕ}
-use mathlib.Core.Path.{_≡_, refl, sym, ap, subst, _∙_}
-use mathlib.Core.Bool.{Bool, true, false, not, _&&_, true≢false}
+use mathlib.Core.Path.{_≡_, refl, sym, subst, _∙_}
+use mathlib.Core.Bool.{true, true≢false}
 use mathlib.Core.Logic.{_⊎_, inl, inr}
 use native.Mathlib.Omega.{arith}
-use lib.Dec.{leb, eqb}
+use lib.Dec.{eqb}
 use lib.Seq.{getD-set-same}
-use Rattle.bounded.specs.Bools.{and-right, cond-ind, same-or-not}
+use Rattle.bounded.specs.Bools.{cond-ind, same-or-not}
 use Rattle.state.specs.Places.{noDomain, domainAt}
 use Rattle.state.specs.Update.{lockSlot, withActive}
 use Rattle.state.specs.declared.Domain.{Domain}
@@ -15,17 +15,15 @@ use Rattle.soundness.specs.Laws.StateParts.{state-parts}
 use Rattle.judge.specs.Judged.{judged}
 use Rattle.calls.specs.View.{World}
 use Rattle.calls.specs.Changes.{applyAll}
-use Rattle.calls.specs.Rules.{unlocked, view, changes}
-use Rattle.calls.specs.Step.{step}
+use Rattle.calls.specs.Rules.{view, changes}
 use Rattle.calls.specs.Runs.{Event, resultOf}
 use Rattle.calls.specs.Laws.Passed.{Passes, Refuses, Does, step-cases}
+use Rattle.calls.specs.Laws.Locks.{whole-passes}
 use Rattle.calls.specs.declared.Call.{Call}
 use Rattle.calls.specs.declared.Call.the-variants.{OnStore, OnObject, OnDomain}
-use Rattle.calls.specs.declared.Access.the-variants.{Read, Write, Execute, Lookup}
-use Rattle.calls.specs.declared.ObjectCall.the-variants.{Create, Delete, AddPassword, DropPassword, Register}
 use Rattle.calls.specs.declared.DomainCall.the-variants.{Insert, Remove, Get, Lock, PdxCall, PdxReturn}
 use Rattle.runs.specs.WholeLock.{WholeLocked, GrantedReturn, Keeps}
-use Rattle.runs.specs.Laws.Others.{others-leave}
+use Rattle.runs.specs.Laws.Others.{access-leaves, object-leaves, others-leave}
 
 pub keeps-refl : (m : Domain) → m .active .whole ≡ true → Keeps m m
 keeps-refl m h = record { whole = h; slots = refl; count = refl; saved = refl; depth = refl }
@@ -48,33 +46,22 @@ lock-keeps m i h =
     (λ e. record { whole = refl; slots = refl; count = refl; saved = refl; depth = refl })
     (λ e. record { whole = h; slots = refl; count = refl; saved = refl; depth = refl })
 
--- a call that the whole lock stops does not pass under it
-pub stopped : (b : Bool) → b ≡ true → not b ≡ true → ⊥
-stopped b h u = true≢false (sym u ∙ ap not h)
-
 module _ (w : World) (d : ℕ) (h : WholeLocked d w) where
   abbrev own : Domain
   own = domainAt (w .state) d
 
   -- the changes of the domain's own calls, returns apart
   own-keeps : (c : Call) → sound (w .state) ≡ true → Passes w d c → (c ≡ OnDomain PdxReturn → ⊥) → Keeps own (domainAt (applyAll (changes d c (view judged w d c)) w .state) d)
-  unfolding changes unlocked view
-  own-keeps (OnStore (Read a)) s p n = keeps-refl own h
-  own-keeps (OnStore (Write a x)) s p n = keeps-refl own h
-  own-keeps (OnStore (Execute a)) s p n = keeps-refl own h
-  own-keeps (OnStore (Lookup a r)) s p n = keeps-refl own h
-  own-keeps (OnObject (Create a m k)) s p n = keeps-refl own h
-  own-keeps (OnObject (Delete b)) s p n = keeps-refl own h
-  own-keeps (OnObject (AddPassword b k m)) s p n = keeps-refl own h
-  own-keeps (OnObject (DropPassword b k)) s p n = keeps-refl own h
-  own-keeps (OnObject (Register b k l es)) s p n = keeps-refl own h
-  own-keeps (OnDomain (Insert i l)) s p n = absurd (stopped _ h (and-right (leb (own .active .locked) i) _ (p .unlocks)))
-  own-keeps (OnDomain (Remove i)) s p n = absurd (stopped _ h (and-right (leb (own .active .locked) i) _ (p .unlocks)))
+  unfolding changes view
+  own-keeps (OnStore c) s p n = rw (access-leaves w d d (view judged w d (OnStore c)) c) (keeps-refl own h)
+  own-keeps (OnObject c) s p n = rw (object-leaves w d d (view judged w d (OnObject c)) c) (keeps-refl own h)
+  own-keeps (OnDomain (Insert i l)) s p n = absurd (true≢false (whole-passes w d (OnDomain (Insert i l)) h p))
+  own-keeps (OnDomain (Remove i)) s p n = absurd (true≢false (whole-passes w d (OnDomain (Remove i)) h p))
   own-keeps (OnDomain Get) s p n = keeps-refl own h
   own-keeps (OnDomain (Lock i)) s p n =
       rw (getD-set-same (w .state .domains) d (withActive own (lockSlot (own .active) i)) noDomain (omega (arith, p .domain, state-parts (w .state) s .long-domains)))
       (lock-keeps own i h)
-  own-keeps (OnDomain (PdxCall a ch)) s p n = absurd (stopped _ h (p .unlocks))
+  own-keeps (OnDomain (PdxCall a ch)) s p n = absurd (true≢false (whole-passes w d (OnDomain (PdxCall a ch)) h p))
   own-keeps (OnDomain PdxReturn) s p n = absurd (n refl)
 
   -- ANY CALL BY ANY DOMAIN, but for a granted return of this one, leaves the lock, the slots and the saved domains

@@ -12,29 +12,40 @@ use Rattle.calls.specs.Step.{step}
 use Rattle.calls.specs.Laws.Passed.{step-cases}
 use Rattle.calls.specs.declared.Call.{Call}
 use Rattle.calls.specs.declared.Call.the-variants.{OnStore, OnObject, OnDomain}
+use Rattle.calls.specs.declared.Access.{Access}
 use Rattle.calls.specs.declared.Access.the-variants.{Read, Write, Execute, Lookup}
+use Rattle.calls.specs.declared.ObjectCall.{ObjectCall}
 use Rattle.calls.specs.declared.ObjectCall.the-variants.{Create, Delete, AddPassword, DropPassword, Register}
 use Rattle.calls.specs.declared.DomainCall.the-variants.{Insert, Remove, Get, Lock, PdxCall, PdxReturn}
 
-module _ (w : World) (e d : ℕ) (v : View) (ne : d ≡ e → ⊥) where
-  -- the changes of a call by another domain
-  done-others : (c : Call) → domainAt (applyAll (changes e c v) w .state) d ≡ domainAt (w .state) d
+module _ (w : World) (e d : ℕ) (v : View) where
+  -- accesses and calls on objects change no domain
+  pub access-leaves : (c : Access) → domainAt (applyAll (changes e (OnStore c) v) w .state) d ≡ domainAt (w .state) d
   unfolding changes
-  done-others (OnStore (Read a)) = refl
-  done-others (OnStore (Write a x)) = refl
-  done-others (OnStore (Execute a)) = refl
-  done-others (OnStore (Lookup a r)) = refl
-  done-others (OnObject (Create p n k)) = refl
-  done-others (OnObject (Delete b)) = refl
-  done-others (OnObject (AddPassword b k m)) = refl
-  done-others (OnObject (DropPassword b k)) = refl
-  done-others (OnObject (Register b k l es)) = refl
-  done-others (OnDomain (Insert i l)) = getD-set-other (w .state .domains) e d _ noDomain ne
-  done-others (OnDomain (Remove i)) = getD-set-other (w .state .domains) e d _ noDomain ne
-  done-others (OnDomain Get) = refl
-  done-others (OnDomain (Lock i)) = getD-set-other (w .state .domains) e d _ noDomain ne
-  done-others (OnDomain (PdxCall a ch)) = getD-set-other (w .state .domains) e d _ noDomain ne
-  done-others (OnDomain PdxReturn) = getD-set-other (w .state .domains) e d _ noDomain ne
+  access-leaves (Read a) = refl
+  access-leaves (Write a x) = refl
+  access-leaves (Execute a) = refl
+  access-leaves (Lookup a r) = refl
+
+  pub object-leaves : (c : ObjectCall) → domainAt (applyAll (changes e (OnObject c) v) w .state) d ≡ domainAt (w .state) d
+  unfolding changes
+  object-leaves (Create p n k) = refl
+  object-leaves (Delete b) = refl
+  object-leaves (AddPassword b k m) = refl
+  object-leaves (DropPassword b k) = refl
+  object-leaves (Register b k l es) = refl
+
+  -- the others change the caller's own
+  done-others : (d ≡ e → ⊥) → (c : Call) → domainAt (applyAll (changes e c v) w .state) d ≡ domainAt (w .state) d
+  unfolding changes
+  done-others ne (OnStore c) = access-leaves c
+  done-others ne (OnObject c) = object-leaves c
+  done-others ne (OnDomain (Insert i l)) = getD-set-other (w .state .domains) e d _ noDomain ne
+  done-others ne (OnDomain (Remove i)) = getD-set-other (w .state .domains) e d _ noDomain ne
+  done-others ne (OnDomain Get) = refl
+  done-others ne (OnDomain (Lock i)) = getD-set-other (w .state .domains) e d _ noDomain ne
+  done-others ne (OnDomain (PdxCall a ch)) = getD-set-other (w .state .domains) e d _ noDomain ne
+  done-others ne (OnDomain PdxReturn) = getD-set-other (w .state .domains) e d _ noDomain ne
 
 -- ANOTHER DOMAIN'S CALL, done or refused, leaves a domain's slots, locks and saved domains as they are
 pub others-leave : (w : World) (e d : ℕ) (c : Call) → (d ≡ e → ⊥) → domainAt (step w e c .outcome .state) d ≡ domainAt (w .state) d

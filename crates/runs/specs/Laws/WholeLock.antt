@@ -1,6 +1,6 @@
 -- UNDER THE WHOLE LOCK: one law over any list of calls by any domains.
 use Prim.Native.Nat.{ℕ}
-use mathlib.Core.Path.{_≡_, sym, subst}
+use mathlib.Core.Path.{sym, subst}
 use mathlib.Core.List.{List, [], _∷_}
 use Rattle.calls.specs.View.{World}
 use Rattle.calls.specs.Step.{worldOf, step}
