@@ -1,10 +1,11 @@
 MONITOR = target/bin/monitor
 CALLS = examples/booking.calls
 
-.PHONY: help test run explain compare panel bench
+.PHONY: help test run explain modes compare panel bench
 help:
 	@echo 'make run [CALLS=FILE]      answers examples/booking.calls, or the call lines in FILE'
 	@echo 'make explain [CALLS=FILE]  the same, each line beside its answer in words'
+	@echo 'make modes                 prints the mode rule, 1 or 0 for each mode from 0 to 255, one a line'
 	@echo 'make test                  the gate: proves every crate from nothing, tries the must-fail edits, and runs the second implementation beside the program and the C functions'
 	@echo 'make compare               runs the second implementation beside the program, without the proofs'
 	@echo 'make panel                 builds target/panel/libreshqobi.a, for C and Rust, and runs both clients on the booking example'
@@ -24,6 +25,9 @@ run: $(MONITOR)
 explain: $(MONITOR)
 	@$(MONITOR) < $(CALLS) | tests/cargo run --release --offline --quiet --bin explain -- $(abspath $(CALLS))
 
+modes: target/bin/modes
+	@target/bin/modes
+
 compare: $(MONITOR)
 	@tests/beside $(MONITOR)
 
@@ -35,8 +39,8 @@ bench: $(MONITOR)
 	@tests/cargo run --profile speed --offline --quiet --bin bench -- $(abspath $(MONITOR)) $(abspath target/bench)
 	@tests/panel/bench $(abspath target/bench)
 
-target/bin/monitor: crates.txt $(wildcard crates/*/src/*.rt)
-	@tests/build monitor
+target/bin/%: crates.txt $(wildcard crates/*/src/*.rt)
+	@tests/build $*
 	@touch -c $@
 
 target/panel/libreshqobi.a: crates.txt $(wildcard crates/*/src/*.rt)

@@ -1,12 +1,18 @@
 -- What a grant, a denial and a legal mode are, right by right: `bit` and `Shares` are defined in Bits.antt.
 -- A mode is positive where bit 7, NOT, is 0, and negative where it is 1.
-use Prim.Native.Nat.{ℕ, suc, _+_, _<_}
+use Prim.Native.Nat.{ℕ, suc, _+_, _*_, _/_, _%_, _<_, _≤_}
 use mathlib.Core.Bool.{Bool, true, false, cond}
-use mathlib.Core.Path.{_≡_, refl}
+use mathlib.Core.List.{List, []}
+use mathlib.Core.Path.{_≡_, refl, ap, _∙_}
 use mathlib.Core.Logic.{_↔_}
-use borrow.Author.Tests.{ltb-true, lt-ltb}
+use native.Mathlib.Omega.{arith}
+use lib.Dec.{eqb}
+use lib.ListN.{getD}
+use borrow.Author.Tests.{ltb-true, lt-ltb, le-ltb}
 use Rattle.bounded.specs.Bools.{and-left}
+use Rattle.bounded.specs.Fill.{tabulate, tabulate-at}
 use Rattle.rights.specs.Modes.{legal, grants, denies, holdsAll, holdsNone}
+use Rattle.rights.specs.Table.{entry, modeTable, entryIn}
 use Rattle.rights.specs.Bits.{bit, Shares, all-exactly, any-exactly, clear-exactly, set-exactly, spare-exactly, beside-exactly, and-exactly}
 
 -- A mode grants a set exactly where it is positive and holds every right of the set.
@@ -50,3 +56,27 @@ legal-count = refl
 
 pub legal-below : (m : ℕ) → legal m ≡ true → m < 256
 legal-below m h = legal-exactly m .0 h .below
+
+-- The mode table has the rule's entry for each mode, and 46 entries that are 1.
+pub table-at : (m : ℕ) → m < 256 → entryIn modeTable m ≡ entry m
+unfolding modeTable
+table-at m h =
+    let whole : 16 * (m / 16) + m % 16 ≡ m = omega arith in
+    ap (λ (row : List ℕ). getD row (m % 16) 0) (tabulate-at 16 (λ r. tabulate 16 (λ p. entry (16 * r + p))) (m / 16) [] (omega arith))
+    ∙ tabulate-at 16 (λ p. entry (16 * (m / 16) + p)) (m % 16) 0 (omega arith)
+    ∙ ap entry whole
+
+pub table-count : count (λ m. eqb (entryIn modeTable m) 1) 256 ≡ 46
+unfolding modeTable
+table-count = refl
+
+-- So a mode that stands in the table is legal exactly where its entry is 1; any other is not legal.
+pub table-legal : (m : ℕ) → m < 256 → eqb (entryIn modeTable m) 1 ≡ legal m
+table-legal m h = ap (λ (e : ℕ). eqb e 1) (table-at m h) ∙ one (legal m)
+  where
+    one : (b : Bool) → eqb (cond b 1 0) 1 ≡ b
+    one true = refl
+    one false = refl
+
+pub above-illegal : (m : ℕ) → 256 ≤ m → false ≡ legal m
+above-illegal m h = rw (le-ltb m 256 h)

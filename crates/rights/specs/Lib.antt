@@ -1,3 +1,4 @@
 pub mod Modes
 pub mod Bits
 pub mod Laws
+pub mod Table

@@ -1,6 +1,9 @@
 // The rights of a capability, and the modes that a password can have.
 ghost use mathlib.Core.Path.{_≡_};
 ghost use Rattle.rights.specs.Modes.{legal, grants, denies};
+use table::mode_table;
+
+pub mod table;
 
 // A set of rights, or a mode: rights and perhaps NOT.
 pub struct Rights {
@@ -22,11 +25,15 @@ impl Rights {
     // Turns a mode from one that grants into one that denies.
     pub const NOT: Rights = Rights { bits: 128 };
 
-    // Whether a number is a legal mode.
+    // Whether a number is a legal mode: what the table has for it. A number above 255 does not stand there.
     pub fn legal(mode: u64) -> bool
         ensures { λ r. ⌜ r ≡ legal mode ⌝ }
     {
-        (mode < 256) & (mode & 96 == 0) & (mode & 31 != 0) & ((mode & 16 == 0) | (mode & 128 != 0))
+        if mode > 255 {
+            return false;
+        }
+        let modes = mode_table();
+        modes[(mode / 16) as usize][(mode % 16) as usize] == 1
     }
 
     // Whether a capability of this mode grants the wanted rights: it is positive and covers them all.

@@ -10,6 +10,7 @@ pub mod generate;
 pub mod image;
 pub mod inputs;
 pub mod lines;
+pub mod modes;
 pub mod monitor;
 pub mod random;
 pub mod short_list;

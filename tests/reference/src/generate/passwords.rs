@@ -33,6 +33,25 @@ impl Generator {
         self.push(d, "DP", &[page, password]);
     }
 
+    /// A password in numbers that may be no legal modes, dropped again each
+    /// time.
+    pub(super) fn try_modes(&mut self, d: usize) {
+        let Some(object) = self.owned(d) else { return };
+        let (password, legal) = (self.new_password(&object), self.mode());
+        for _ in 0..4 {
+            let mode = match self.random.below(8) {
+                0 => legal | 32,
+                1 => legal | 64,
+                2 => legal + 256,
+                3 => P | self.random.below(16),
+                4 => NOT,
+                _ => self.random.below(256),
+            };
+            self.push(d, "AP", &[object.base, password, mode]);
+            self.push(d, "DP", &[object.base, password]);
+        }
+    }
+
     /// Four passwords and a registration on an object, and one more of each.
     pub(super) fn brim(&mut self, d: usize) {
         let Some(object) = self.owned(d) else { return };

@@ -5,7 +5,7 @@ use super::*;
 type Plan = fn(&mut Generator, usize);
 
 /// What a domain may set out to do, and how often.
-pub(super) const PLANS: [(Plan, u64); 32] = [
+pub(super) const PLANS: [(Plan, u64); 33] = [
     (Generator::access, 30),
     (Generator::look, 10),
     (Generator::share, 8),
@@ -38,6 +38,7 @@ pub(super) const PLANS: [(Plan, u64); 32] = [
     (Generator::early_end, 2),
     (Generator::earlier_pair_behind, 2),
     (Generator::full_list, 1),
+    (Generator::try_modes, 1),
 ];
 
 /// Plans that can be done before the first BT.

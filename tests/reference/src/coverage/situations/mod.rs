@@ -5,6 +5,7 @@ mod ends;
 mod faults;
 mod judging;
 mod lists;
+mod modes;
 mod objects;
 mod passwords;
 mod procedures;
@@ -18,13 +19,14 @@ use crate::monitor::*;
 /// A situation's name, and whether a call is in it.
 pub type Situation = (&'static str, fn(&Seen) -> bool);
 
-const GROUPS: [&[Situation]; 11] = [
+const GROUPS: [&[Situation]; 12] = [
     boots::BOOTS,
     judging::JUDGING,
     lists::LISTS,
     ends::ENDS,
     objects::OBJECTS,
     passwords::PASSWORDS,
+    modes::MODES,
     registrations::REGISTRATIONS,
     slots::SLOTS,
     whole_lock::WHOLE_LOCK,

@@ -3,6 +3,7 @@
 mod boots;
 mod ends;
 mod judging;
+mod modes;
 mod objects;
 mod pages;
 mod procedures;
@@ -38,6 +39,7 @@ fn broken() -> impl Iterator<Item = Broken> {
         shams::SHAMS,
         traps::TRAPS,
         judging::JUDGING,
+        modes::MODES,
         ends::ENDS,
         objects::OBJECTS,
         slots::SLOTS,
