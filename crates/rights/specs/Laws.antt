@@ -1,18 +1,16 @@
 -- What a grant, a denial and a legal mode are, right by right: `bit` and `Shares` are defined in Bits.antt.
 -- A mode is positive where bit 7, NOT, is 0, and negative where it is 1.
-use Prim.Native.Nat.{ℕ, suc, _+_, _*_, _/_, _%_, _<_, _≤_}
+use Prim.Native.Nat.{ℕ, suc, _+_, _<_, _≤_}
 use mathlib.Core.Bool.{Bool, true, false, cond}
-use mathlib.Core.List.{List, []}
 use mathlib.Core.Path.{_≡_, refl, ap, _∙_}
 use mathlib.Core.Logic.{_↔_}
-use native.Mathlib.Omega.{arith}
 use lib.Dec.{eqb}
 use lib.ListN.{getD}
 use borrow.Author.Tests.{ltb-true, lt-ltb, le-ltb}
 use Rattle.bounded.specs.Bools.{and-left}
-use Rattle.bounded.specs.Fill.{tabulate, tabulate-at}
+use Rattle.bounded.specs.Fill.{tabulate-at}
 use Rattle.rights.specs.Modes.{legal, grants, denies, holdsAll, holdsNone}
-use Rattle.rights.specs.Table.{entry, modeTable, entryIn}
+use Rattle.rights.specs.Table.{entry, modeTable}
 use Rattle.rights.specs.Bits.{bit, Shares, all-exactly, any-exactly, clear-exactly, set-exactly, spare-exactly, beside-exactly, and-exactly}
 
 -- A mode grants a set exactly where it is positive and holds every right of the set.
@@ -58,20 +56,16 @@ pub legal-below : (m : ℕ) → legal m ≡ true → m < 256
 legal-below m h = legal-exactly m .0 h .below
 
 -- The mode table has the rule's entry for each mode, and 46 entries that are 1.
-pub table-at : (m : ℕ) → m < 256 → entryIn modeTable m ≡ entry m
+pub table-at : (m : ℕ) → m < 256 → getD modeTable m 0 ≡ entry m
 unfolding modeTable
-table-at m h =
-    let whole : 16 * (m / 16) + m % 16 ≡ m = omega arith in
-    ap (λ (row : List ℕ). getD row (m % 16) 0) (tabulate-at 16 (λ r. tabulate 16 (λ p. entry (16 * r + p))) (m / 16) [] (omega arith))
-    ∙ tabulate-at 16 (λ p. entry (16 * (m / 16) + p)) (m % 16) 0 (omega arith)
-    ∙ ap entry whole
+table-at m h = tabulate-at 256 entry m 0 h
 
-pub table-count : count (λ m. eqb (entryIn modeTable m) 1) 256 ≡ 46
+pub table-count : count (λ m. eqb (getD modeTable m 0) 1) 256 ≡ 46
 unfolding modeTable
 table-count = refl
 
--- So a mode that stands in the table is legal exactly where its entry is 1; any other is not legal.
-pub table-legal : (m : ℕ) → m < 256 → eqb (entryIn modeTable m) 1 ≡ legal m
+-- So a number that stands in the table is a legal mode exactly where its entry is 1; any other is none.
+pub table-legal : (m : ℕ) → m < 256 → eqb (getD modeTable m 0) 1 ≡ legal m
 table-legal m h = ap (λ (e : ℕ). eqb e 1) (table-at m h) ∙ one (legal m)
   where
     one : (b : Bool) → eqb (cond b 1 0) 1 ≡ b

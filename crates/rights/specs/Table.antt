@@ -1,8 +1,7 @@
 -- The mode table: document 02, T-04. A constant of the code; here it is made by the rule, `legal`.
-use Prim.Native.Nat.{ℕ, _+_, _*_, _/_, _%_}
+use Prim.Native.Nat.{ℕ}
 use mathlib.Core.Bool.{cond}
-use mathlib.Core.List.{List, []}
-use lib.ListN.{getD}
+use mathlib.Core.List.{List}
 use Rattle.bounded.specs.Fill.{tabulate}
 use Rattle.rights.specs.Modes.{legal}
 
@@ -10,10 +9,6 @@ use Rattle.rights.specs.Modes.{legal}
 abbrev pub entry : ℕ → ℕ
 entry mode = cond (legal mode) 1 0
 
--- the entries of modes 0 to 255, in sixteen rows of sixteen
-unfoldable pub modeTable : List (List ℕ)
-modeTable = tabulate 16 (λ row. tabulate 16 (λ place. entry (16 * row + place)))
-
--- what such a table has for a mode
-abbrev pub entryIn : List (List ℕ) → ℕ → ℕ
-entryIn table mode = getD (getD table (mode / 16) []) (mode % 16) 0
+-- the entries of modes 0 to 255
+unfoldable pub modeTable : List ℕ
+modeTable = tabulate 256 entry

@@ -25,7 +25,7 @@ impl Rights {
     // Turns a mode from one that grants into one that denies.
     pub const NOT: Rights = Rights { bits: 128 };
 
-    // Whether a number is a legal mode: what the table has for it. A number above 255 does not stand there.
+    // Whether a number is a legal mode: it stands in the table, and its entry is 1.
     pub fn legal(mode: u64) -> bool
         ensures { λ r. ⌜ r ≡ legal mode ⌝ }
     {
@@ -33,7 +33,7 @@ impl Rights {
             return false;
         }
         let modes = mode_table();
-        modes[(mode / 16) as usize][(mode % 16) as usize] == 1
+        modes[mode as usize] == 1
     }
 
     // Whether a capability of this mode grants the wanted rights: it is positive and covers them all.

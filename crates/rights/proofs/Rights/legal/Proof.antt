@@ -6,5 +6,5 @@ use Rattle.rights.proofs.Rights.legal.Tie as tie
 pub legal-spec : {M : Type 1} → statement M
 legal-spec =
     tie.close
-    (tie.spec (λ c. above-illegal (c .before .args .mode) (search needs)) (λ c κs. search needs) (λ c. search needs) (λ c. search needs) (λ c. search needs)
-    (λ c. rw (c .before .mode-table .ensures) (table-legal (c .before .before .before .args .mode) (search needs))))
+    (tie.spec (λ c. above-illegal (c .before .args .mode) (search needs)) (λ c κs. search needs) (λ c. search needs)
+    (λ c. rw (c .mode-table .ensures) (table-legal (c .before .before .args .mode) (search needs))))
