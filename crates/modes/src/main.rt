@@ -1,10 +1,8 @@
 // Prints the mode rule: a line for each mode from 0 to 255, 1 where it is legal and 0 where not. It works each one out by the rule
 // and does not read the table of `rights`.
 ghost use mathlib.Core.Path.{_≡_};
-ghost use Prim.Native.Nat.{_+_};
 ghost use Rattle.rights.specs.Modes.{legal};
-ghost use Rattle.rights.specs.Table.{entry};
-ghost use Rattle.modes.specs.Printed.{printed};
+ghost use Rattle.modes.specs.Printed.{digitOf, printed};
 use libc::STDOUT_FILENO;
 
 // Whether a number is a legal mode: below 256, bits 32 and 64 clear, some right, and PDX (16) only beside NOT (128).
@@ -14,9 +12,9 @@ fn rule(mode: u64) -> bool
     (mode < 256) & (mode & 96 == 0) & (mode & 31 != 0) & ((mode & 16 == 0) | (mode & 128 != 0))
 }
 
-// The entry of a mode, as a digit.
+// The digit of a mode, 1 or 0.
 fn digit(mode: u64) -> u8
-    ensures { λ r. ⌜ r ≡ 48 + entry mode ⌝ }
+    ensures { λ r. ⌜ r ≡ digitOf mode ⌝ }
 {
     if rule(mode) {
         return 49;

@@ -16,7 +16,7 @@ const LETTERS: [(u64, char); 6] = [(NOT, 'N'), (R, 'R'), (W, 'W'), (X, 'X'), (D,
 /// The width of a cell of the chart.
 const CELL: usize = 8;
 
-/// The text by the rule: one entry a line from mode 0 to 255.
+/// The text that the rule gives: a line for each mode.
 pub fn by_rule() -> String {
     let line = |mode| if legal_mode(mode) { "1\n" } else { "0\n" };
     (0..MODES as u64).map(line).collect()

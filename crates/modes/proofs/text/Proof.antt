@@ -1,23 +1,22 @@
-use Prim.Native.Nat.{ℕ, suc, _+_, _*_, _-_, _≤_}
+use Prim.Native.Nat.{ℕ, suc, _*_, _-_, _≤_}
 use mathlib.Core.Path.{_≡_, refl, ap, _∙_}
 use mathlib.Core.List.{List}
 use native.Mathlib.Numerals.{add-one}
 use native.Mathlib.Omega.{arith}
 use lib.ListN.{length, set, replicate, length-set}
 use borrow.Author.Needs.{needs}
-use Rattle.rights.specs.Table.{entry}
-use Rattle.modes.specs.Printed.{printed, entryLines}
+use Rattle.modes.specs.Printed.{digitOf, ruleLines, printed}
 use Rattle.modes.proofs.text.Statement.{statement}
 use Rattle.modes.proofs.text.Tie as tie
 
 -- the lines with the digits of the modes below `m`
 abbrev written : ℕ → List ℕ
 written ℕ.zero = replicate 512 10
-written (suc m) = set (written m) (2 * m) (48 + entry m)
+written (suc m) = set (written m) (2 * m) (digitOf m)
 
 -- with all digits they are the text: both are computed
 computed : written 256 ≡ printed
-unfolding printed entryLines
+unfolding printed ruleLines
 computed = refl
 
 pub text-spec : {M : Type 1} → statement M
