@@ -3,4 +3,5 @@ pub mod Search
 pub mod Place
 pub mod Every
 pub mod Fill
+pub mod Sum
 pub mod Folds

@@ -17,3 +17,4 @@ pub mod Same
 pub mod Full
 pub mod ObjectRoom
 pub mod PasswordRoom
+pub mod Figure

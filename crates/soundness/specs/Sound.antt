@@ -1,4 +1,4 @@
--- Soundness: document 01, "Ground and bounds", items 1 to 5. For document 02, T-02, every unused place holds zeros, so that one
+-- Soundness: document 01, "Ground and bounds", items 1 to 5, and the bounds of accounts (document 02, T-05). For document 02, T-02, every unused place holds zeros, so that one
 -- state is one value; Laws/Unused.antt says so place by place. The lengths of the arrays are part of the definition, and hold
 -- of every value that code can hand over.
 use Prim.Native.Nat.{ℕ, _/_}
@@ -9,13 +9,14 @@ use lib.ListN.{length}
 use Rattle.bounded.specs.Every.{below}
 use Rattle.bounded.specs.Fill.{tabulate}
 use Rattle.rights.specs.Modes.{legal}
-use Rattle.state.specs.Places.{slotAt, savedAt, passwordAt, entryAt, objectAt, estateAt, domainAt}
+use Rattle.state.specs.Places.{slotAt, savedAt, passwordAt, entryAt, objectAt, estateAt, domainAt, limitAt, setAt}
 use Rattle.state.specs.Extent.{free, covers, liesIn, apart}
 use Rattle.state.specs.declared.Capability.{Capability}
 use Rattle.state.specs.declared.Object.{Object}
 use Rattle.state.specs.declared.Estate.{Estate}
 use Rattle.state.specs.declared.Frame.{Frame}
 use Rattle.state.specs.declared.Domain.{Domain}
+use Rattle.state.specs.declared.Accounts.{Accounts}
 use Rattle.state.specs.declared.State.{State}
 
 -- item 4: a place with the word 0 is free, and its mode is 0; an ordinary password has a legal mode
@@ -56,11 +57,11 @@ unfoldable pub withoutPasswords : Object → Bool
 withoutPasswords o = eqb (o .registration .password) 0 && below 4 (λ k. eqb (passwordAt o k .word) 0)
 
 -- items 2 to 4: the passwords of an object, the registration's too, are all different; a free object has the base 0 and no
--- passwords, and thereby is all zero; a standing one lies in its estate
+-- passwords and the account 0, and thereby is all zero; a standing one lies in its estate and is on one of the four accounts
 unfoldable pub objectBounds : Object → ℕ → Bool
 objectBounds o d =
     below 4 (passwordOk o) && distinct (allPasswords o) && registrationOk o
-    && cond (free o) (eqb (o .base) 0 && withoutPasswords o) (liesIn o d)
+    && cond (free o) (eqb (o .base) 0 && withoutPasswords o && eqb (o .account) 0) (liesIn o d && ltb (o .account) 4)
 
 -- a place for an object
 unfoldable pub objectOk : Object → ℕ → Bool
@@ -102,6 +103,11 @@ domainOk m = eqb (length (m .saved)) 4 && frameOk false (m .active) && leb (m .d
 unfoldable pub soundAt : State → ℕ → Bool
 soundAt s d = estateOk (estateAt (s .table) d) d && domainOk (domainAt s d)
 
+-- T-05: a limit is at most 128 and a set at most 15; before a boot all are 0. The pages on an account are not held to its limit here
+unfoldable pub accountsOk : Accounts → Bool
+accountsOk x =
+    eqb (length (x .limits)) 4 && eqb (length (x .sets)) 4 && (below 4 (λ a. leb (limitAt x a) 128) && below 4 (λ d. leb (setAt x d) 15))
+
 -- item 1: there are four domains
 unfoldable pub sound : State → Bool
-sound s = eqb (length (s .table .estates)) 4 && eqb (length (s .domains)) 4 && below 4 (soundAt s)
+sound s = eqb (length (s .table .estates)) 4 && eqb (length (s .domains)) 4 && below 4 (soundAt s) && accountsOk (s .accounts)

@@ -7,14 +7,14 @@ use state::extents::apart;
 use state::extents::covers;
 use state::extents::lies_in;
 ghost use mathlib.Core.Path.{_≡_};
-ghost use mathlib.Core.Bool.{cond, _||_};
+ghost use mathlib.Core.Bool.{cond, _&&_, _||_};
 ghost use mathlib.Core.List.{[], _∷_};
 ghost use Prim.Native.Nat.{_/_};
-ghost use lib.Dec.{eqb};
+ghost use lib.Dec.{ltb, eqb};
 ghost use Rattle.bounded.specs.Every.{below};
 ghost use Rattle.rights.specs.Modes.{legal};
 ghost use Rattle.state.specs.Places.{entryAt, objectAt};
-ghost use Rattle.state.specs.Extent.{covers};
+ghost use Rattle.state.specs.Extent.{free, covers, liesIn};
 ghost use Rattle.soundness.specs.Sound.{distinct, allPasswords, registrationOk, withoutPasswords, objectOk, apartFrom, estateOk};
 ghost use Rattle.soundness.specs.Laws.Reach.{reach};
 
@@ -107,6 +107,16 @@ fn without_passwords(o: Object) -> bool
     (g.password == 0) & ((p.word == 0) & (q.word == 0) & (r.word == 0) & (s.word == 0))
 }
 
+// Whether a place without pages is zero beside its modes and entries, or the object lies in the estate of domain d, on an account.
+fn place_ok(o: Object, d: u8) -> bool
+    ensures { λ r. ⌜ r ≡ cond (free o) (eqb (o .base) 0 && withoutPasswords o && eqb (o .account) 0) (liesIn o d && ltb (o .account) 4) ⌝ }
+{
+    let unused = o.pages == 0;
+    let zero = (o.base == 0) & without_passwords(o) & (o.account == 0);
+    let bound = lies_in(o, d) & (o.account < 4);
+    (unused & zero) | (!unused & bound)
+}
+
 // Whether an object is all zero, or keeps its bounds.
 fn object_ok(o: Object, d: u8) -> bool
     ensures { λ r. ⌜ r ≡ objectOk o d ⌝ }
@@ -115,9 +125,7 @@ fn object_ok(o: Object, d: u8) -> bool
         & password_ok(o.passwords[1])
         & password_ok(o.passwords[2])
         & password_ok(o.passwords[3]);
-    let unused = o.pages == 0;
-    let place = (unused & ((o.base == 0) & without_passwords(o))) | (!unused & lies_in(o, d));
-    passwords & passwords_distinct(o) & registration_ok(o) & place
+    passwords & passwords_distinct(o) & registration_ok(o) & place_ok(o, d)
 }
 
 // Whether the object at place i is apart from all before it.

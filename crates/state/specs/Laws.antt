@@ -6,3 +6,4 @@ pub mod Same
 pub mod Put
 pub mod PutObject
 pub mod PutPassword
+pub mod Pages

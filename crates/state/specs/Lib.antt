@@ -2,5 +2,6 @@ pub mod Places
 pub mod Extent
 pub mod Lookup
 pub mod Update
+pub mod Pages
 pub mod Same
 pub mod Laws

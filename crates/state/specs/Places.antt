@@ -11,6 +11,7 @@ use Rattle.state.specs.declared.Estate.{Estate}
 use Rattle.state.specs.declared.Table.{Table}
 use Rattle.state.specs.declared.Frame.{Frame}
 use Rattle.state.specs.declared.Domain.{Domain}
+use Rattle.state.specs.declared.Accounts.{Accounts}
 use Rattle.state.specs.declared.State.{State}
 
 -- past the end of an array: all zero, with no places of its own
@@ -24,7 +25,7 @@ abbrev pub noRegistration : Registration
 noRegistration = record { password = 0; list = noCapability; count = 0; entries = [] }
 
 abbrev pub noObject : Object
-noObject = record { base = 0; pages = 0; passwords = []; registration = noRegistration }
+noObject = record { base = 0; pages = 0; passwords = []; registration = noRegistration; account = 0 }
 
 abbrev pub noEstate : Estate
 noEstate = record { objects = [] }
@@ -40,7 +41,7 @@ abbrev pub freeRegistration : Registration
 freeRegistration = record { password = 0; list = noCapability; count = 0; entries = replicate 4 0 }
 
 abbrev pub freeObject : Object
-freeObject = record { base = 0; pages = 0; passwords = replicate 4 noPassword; registration = freeRegistration }
+freeObject = record { base = 0; pages = 0; passwords = replicate 4 noPassword; registration = freeRegistration; account = 0 }
 
 abbrev pub emptyEstate : Estate
 emptyEstate = record { objects = replicate 8 freeObject }
@@ -51,9 +52,13 @@ emptyFrame = record { slots = replicate 8 noCapability; count = 0; locked = 0; w
 abbrev pub emptyDomain : Domain
 emptyDomain = record { active = emptyFrame; saved = replicate 4 emptyFrame; depth = 0 }
 
--- no object and no slot
+-- before a boot: limits of 0 and empty sets (document 02, T-05)
+abbrev pub noAccounts : Accounts
+noAccounts = record { limits = replicate 4 0; sets = replicate 4 0 }
+
+-- no object, no slot, and no account that may be charged
 abbrev pub emptyState : State
-emptyState = record { table = record { estates = replicate 4 emptyEstate }; domains = replicate 4 emptyDomain }
+emptyState = record { table = record { estates = replicate 4 emptyEstate }; domains = replicate 4 emptyDomain; accounts = noAccounts }
 
 -- what stands at a place
 abbrev pub slotAt : Frame → ℕ → Capability
@@ -76,6 +81,13 @@ estateAt t d = getD (t .estates) d noEstate
 
 abbrev pub domainAt : State → ℕ → Domain
 domainAt s d = getD (s .domains) d noDomain
+
+-- the limit of an account, and the set of accounts that a domain may charge
+abbrev pub limitAt : Accounts → ℕ → ℕ
+limitAt x a = getD (x .limits) a 0
+
+abbrev pub setAt : Accounts → ℕ → ℕ
+setAt x d = getD (x .sets) d 0
 
 -- the estate in which a page lies: document 01, "Ground and bounds", item 2, 32 pages to each
 abbrev pub estateOf : Table → ℕ → Estate

@@ -15,12 +15,13 @@ pub record SameRegistration (r r′ : Registration) : Type 0 where
   pub count : 0 < r .password → r .count ≡ r′ .count
   pub entry : 0 < r .password → (k : ℕ) → k < r .count → getD (r .entries) k 0 ≡ getD (r′ .entries) k 0
 
--- the same object: the same run, the same mode for each word as an ordinary password, the same registration
+-- the same object: the same run, the same mode for each word as an ordinary password, the same registration, the same account
 pub record SameObject (o o′ : Object) : Type 0 where
   pub base : o .base ≡ o′ .base
   pub pages : o .pages ≡ o′ .pages
   pub modes : (word : ℕ) → ordinaryMode o word ≡ ordinaryMode o′ word
   pub registration : SameRegistration (o .registration) (o′ .registration)
+  pub account : o .account ≡ o′ .account
 
 -- at each base the same object, or none in both
 abbrev pub SameObjects : Table → Table → Type 0

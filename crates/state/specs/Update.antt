@@ -68,17 +68,23 @@ restoreDomain m =
     (record { active = savedAt m (m .depth - 1); saved = set (m .saved) (m .depth - 1) emptyFrame; depth = m .depth - 1 })
     m
 
--- a new object, with one password in the owner's mode, 15
-unfoldable pub newObject : ℕ → ℕ → ℕ → Object
-newObject base pages word =
-    record { base = base; pages = pages; passwords = record { word = word; mode = 15 } ∷ replicate 3 noPassword; registration = freeRegistration }
+-- a new object on an account, with one password in the owner's mode, 15
+unfoldable pub newObject : ℕ → ℕ → ℕ → ℕ → Object
+newObject base pages word account =
+    record {
+      base = base;
+      pages = pages;
+      passwords = record { word = word; mode = 15 } ∷ replicate 3 noPassword;
+      registration = freeRegistration;
+      account = account;
+    }
 
 -- other passwords, another registration
 abbrev pub withPasswords : Object → List Password → Object
-withPasswords o ps = record { base = o .base; pages = o .pages; passwords = ps; registration = o .registration }
+withPasswords o ps = record { base = o .base; pages = o .pages; passwords = ps; registration = o .registration; account = o .account }
 
 abbrev pub withRegistration : Object → Registration → Object
-withRegistration o g = record { base = o .base; pages = o .pages; passwords = o .passwords; registration = g }
+withRegistration o g = record { base = o .base; pages = o .pages; passwords = o .passwords; registration = g; account = o .account }
 
 -- a password more, at the first free place: the choice of place is the program's
 unfoldable pub addPassword : Object → ℕ → ℕ → Object
@@ -97,7 +103,7 @@ withObject e k o = record { objects = set (e .objects) k o }
 
 -- another estate, another domain
 abbrev pub withEstate : State → ℕ → Estate → State
-withEstate s d e = record { table = record { estates = set (s .table .estates) d e }; domains = s .domains }
+withEstate s d e = record { table = record { estates = set (s .table .estates) d e }; domains = s .domains; accounts = s .accounts }
 
 abbrev pub withDomain : State → ℕ → Domain → State
-withDomain s d m = record { table = s .table; domains = set (s .domains) d m }
+withDomain s d m = record { table = s .table; domains = set (s .domains) d m; accounts = s .accounts }

@@ -1,4 +1,5 @@
 // The objects of an estate, and the parts of a state put back.
+use crate::Accounts;
 use crate::Domain;
 use crate::Estate;
 use crate::Object;
@@ -107,7 +108,7 @@ pub fn with_domain(s: State, d: usize, m: Domain) -> State
     r
 }
 
-// No object and no slot.
+// No object, no slot, and no account that may be charged.
 pub fn empty_state() -> State
     ensures { λ r. ⌜ r ≡ emptyState ⌝ }
 {
@@ -123,5 +124,9 @@ pub fn empty_state() -> State
     State {
         table: Table { estates: [e; 4] },
         domains: [m; 4],
+        accounts: Accounts {
+            limits: [0; 4],
+            sets: [0; 4],
+        },
     }
 }

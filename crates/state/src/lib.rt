@@ -1,4 +1,4 @@
-// The state of the monitor: the object table and the protection domains.
+// The state of the monitor: the object table, the protection domains and the accounts.
 //
 // A struct by value, with a fixed number of places in each array. A place for an object with 0 pages is free, a place for a
 // password with the word 0 is free, and a registration with the password 0 is none.
@@ -8,6 +8,7 @@ pub mod estates;
 pub mod extents;
 pub mod frames;
 pub mod objects;
+pub mod pages;
 pub mod tables;
 
 // A capability as a slot or a registration holds it: the page it names and the password it shows.
@@ -30,12 +31,13 @@ pub struct Registration {
     pub entries: [u16; 4],
 }
 
-// A run of pages, named by the first of them.
+// A run of pages, named by the first of them, on the account that it is charged to.
 pub struct Object {
     pub base: u8,
     pub pages: u8,
     pub passwords: [Password; 4],
     pub registration: Registration,
+    pub account: u8,
 }
 
 // The objects of one domain's estate.
@@ -63,7 +65,14 @@ pub struct Domain {
     pub depth: u8,
 }
 
+// The accounts: the limit of each in pages, and for each domain the set that it may charge, bit a for account a.
+pub struct Accounts {
+    pub limits: [u8; 4],
+    pub sets: [u8; 4],
+}
+
 pub struct State {
     pub table: Table,
     pub domains: [Domain; 4],
+    pub accounts: Accounts,
 }

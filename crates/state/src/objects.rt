@@ -116,12 +116,13 @@ pub fn free_object() -> Object
         pages: 0,
         passwords: [Password { word: 0, mode: 0 }; 4],
         registration: free_registration(),
+        account: 0,
     }
 }
 
-// A new object with one password in the owner's mode.
-pub fn new_object(base: u8, pages: u8, word: u64) -> Object
-    ensures { λ r. ⌜ r ≡ newObject base pages word ⌝ }
+// A new object on an account, with one password in the owner's mode.
+pub fn new_object(base: u8, pages: u8, word: u64, account: u8) -> Object
+    ensures { λ r. ⌜ r ≡ newObject base pages word account ⌝ }
 {
     let none = Password { word: 0, mode: 0 };
     Object {
@@ -137,6 +138,7 @@ pub fn new_object(base: u8, pages: u8, word: u64) -> Object
             none,
         ],
         registration: free_registration(),
+        account: account,
     }
 }
 

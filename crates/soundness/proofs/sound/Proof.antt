@@ -9,7 +9,8 @@ use Rattle.soundness.proofs.sound.Tie as tie
 returns : tie.Need-returns
 unfolding sound soundAt below
 returns c =
-    let b7 = c .before .before in
+    let b8 = c .before .before in
+    let b7 = b8 .before .before in
     let b6 = b7 .before .before in
     let b5 = b6 .before .before in
     let b4 = b5 .before .before in
@@ -18,7 +19,7 @@ returns c =
     let b1 = b2 .before .before in
     let g = b1 .before .before .before .good .0 .1 .1 in
     rw (eq-eqb _ _ (simp length-map at (g .0 .1 .1 .0 .1 .0 .1)), eq-eqb _ _ (simp length-map at (g .1 .0 .1 .0 .1)))
-    (rw (c .domain-ok4 .ensures, b7 .estate-ok4 .ensures, b6 .domain-ok3 .ensures, b5 .estate-ok3 .ensures)
+    (rw (c .accounts-ok .ensures, b8 .domain-ok4 .ensures, b7 .estate-ok4 .ensures, b6 .domain-ok3 .ensures, b5 .estate-ok3 .ensures)
     (rw (b4 .domain-ok2 .ensures, b3 .estate-ok2 .ensures, b2 .domain-ok .ensures, b1 .estate-ok .ensures)))
 
 pub sound-spec : {M : Type 1} → statement M
@@ -27,4 +28,4 @@ sound-spec =
     (tie.spec (λ c. search needs) (λ c κs. search needs) (λ c. search needs) (λ c κs. search needs)
     (λ c. search needs) (λ c κs. search needs) (λ c. search needs) (λ c κs. search needs) (λ c. search needs)
     (λ c κs. search needs) (λ c. search needs) (λ c κs. search needs) (λ c. search needs) (λ c κs. search needs)
-    (λ c. search needs) (λ c κs. search needs) returns)
+    (λ c. search needs) (λ c κs. search needs) (λ c κs. search needs) returns)

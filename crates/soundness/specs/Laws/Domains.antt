@@ -87,4 +87,5 @@ with-domain-sound s d m p h =
       long-domains = simp length-set (q .long-domains);
       estate = q .estate;
       domain = λ k l. set-at (λ _ x. domainOk x ≡ true) (s .domains) d m noDomain k (omega arith) (λ e. p) (λ ne. q .domain k l);
+      accounts = q .accounts;
     })

@@ -4,14 +4,14 @@ use mathlib.Core.Path.{_≡_, refl}
 use mathlib.Core.Bool.{Bool, true}
 use native.Mathlib.Omega.{arith}
 use lib.ListN.{length-set, getD-replicate}
-use Rattle.bounded.specs.Every.{set-at}
-use Rattle.state.specs.Places.{noObject, noEstate, noDomain, freeObject, emptyEstate, emptyDomain, emptyState, objectAt}
+use Rattle.bounded.specs.Every.{below, set-at}
+use Rattle.state.specs.Places.{noObject, noEstate, noDomain, freeObject, emptyEstate, emptyDomain, noAccounts, emptyState, objectAt}
 use Rattle.state.specs.Extent.{apart}
 use Rattle.state.specs.Lookup.{objectWhere, placeWhere}
 use Rattle.state.specs.Update.{withObject, withEstate}
 use Rattle.state.specs.Laws.Extent.{apart-sym, SameRun, apart-run, apart-free}
 use Rattle.state.specs.Laws.Lookup.{Stands}
-use Rattle.soundness.specs.Sound.{objectOk, estateOk, sound}
+use Rattle.soundness.specs.Sound.{objectOk, estateOk, accountsOk, sound}
 use Rattle.soundness.specs.Laws.StateParts.{EstateSound, estate-parts, parts-estate, state-parts, parts-state, estate-apart}
 use Rattle.soundness.specs.Laws.ObjectParts.{free-sound}
 use Rattle.soundness.specs.Laws.Domains.{empty-domain}
@@ -68,6 +68,7 @@ with-estate-sound s d e p h =
       estate = λ k l.
           set-at (λ j x. estateOk x j ≡ true) (s .table .estates) d e noEstate k (omega arith) (λ w. p) (λ ne. q .estate k l);
       domain = q .domain;
+      accounts = q .accounts;
     })
 
 -- an estate with no object
@@ -80,6 +81,11 @@ empty-estate d =
       clear = λ i j l m. rw (getD-replicate 8 i freeObject noObject l) (apart-free _ freeObject refl);
     })
 
+-- limits of 0 and empty sets
+no-accounts : accountsOk noAccounts ≡ true
+unfolding accountsOk below
+no-accounts = refl
+
 -- the empty state
 pub empty-sound : sound emptyState ≡ true
 empty-sound =
@@ -89,4 +95,5 @@ empty-sound =
       long-domains = refl;
       estate = λ d l. rw (getD-replicate 4 d emptyEstate noEstate l) (empty-estate d);
       domain = λ d l. rw (getD-replicate 4 d emptyDomain noDomain l) empty-domain;
+      accounts = no-accounts;
     })

@@ -4,7 +4,7 @@ use mathlib.Core.Path.{_≡_, refl, ap, _∙_}
 use mathlib.Core.Bool.{true}
 use mathlib.Core.Logic.{⊎-elim}
 use native.Mathlib.Omega.{arith}
-use lib.Dec.{leb, eqb}
+use lib.Dec.{leb, ltb, eqb}
 use lib.ListN.{length, getD-replicate}
 use borrow.Author.Tests.{leb-true, leb-false, le-leb, lt-leb, ltb-true, lt-ltb, eqb-true, eq-eqb}
 use Rattle.bounded.specs.Bools.{and-left, and-right, and-both, cond-ind, same-or-not}
@@ -79,6 +79,7 @@ pub record ObjectBounds (o : Object) (d : ℕ) : Type 0 where
   pub vacant : (k : ℕ) → k < 4 → passwordAt o k .word ≡ 0 → passwordAt o k .mode ≡ 0
   pub different : distinct (allPasswords o) ≡ true
   pub registration : registrationOk o ≡ true
+  pub account : o .account < 4
 
 vacant-mode : (o : Object) → below 4 (passwordOk o) ≡ true → (k : ℕ) → k < 4 → passwordAt o k .word ≡ 0 → passwordAt o k .mode ≡ 0
 unfolding passwordOk
@@ -88,7 +89,8 @@ bounds-parts : (o : Object) (d : ℕ) → objectBounds o d ≡ true → 0 < o .p
 unfolding objectBounds liesIn passwordOk
 bounds-parts o d h p =
     let (each, different, registration, rest) = all4 _ _ _ _ h in
-    let lies = used-test (free o) _ _ rest (zero-not _ p) in
+    let bound = used-test (free o) _ _ rest (zero-not _ p) in
+    let lies = and-left (liesIn o d) _ bound in
     record {
       from = leb-true _ _ (and-left _ _ lies);
       to = leb-true _ _ (and-right (leb (32 * d) (o .base)) _ lies);
@@ -96,6 +98,7 @@ bounds-parts o d h p =
       vacant = vacant-mode o each;
       different = different;
       registration = registration;
+      account = ltb-true _ 4 (and-right (liesIn o d) _ bound);
     }
 
 parts-bounds : (o : Object) (d : ℕ) → ObjectBounds o d → 0 < o .pages → objectBounds o d ≡ true
@@ -110,7 +113,7 @@ parts-bounds o d h p =
     (λ e. h .mode k l (not-zero _ e))))
     (h .different))
     (h .registration))
-    (and-both (le-leb _ _ (h .from)) (le-leb _ _ (h .to))))
+    (and-both (and-both (le-leb _ _ (h .from)) (le-leb _ _ (h .to))) (lt-ltb _ 4 (h .account))))
 
 zeros : (o : Object) (d : ℕ) → length (o .passwords) ≡ 4 → length (o .registration .entries) ≡ 4 → objectBounds o d ≡ true → o .pages ≡ 0
     → o ≡ freeObject
@@ -118,11 +121,11 @@ unfolding objectBounds withoutPasswords
 zeros o d l m h e =
     let (each, different, registration, rest) = all4 _ _ _ _ h in
     let zero = unused-test (free o) _ _ rest (eq-eqb _ 0 e) in
-    let without = and-right (eqb (o .base) 0) (withoutPasswords o) zero in
+    let (base, without, account) = all3 _ _ _ zero in
     let word : (k : ℕ) → k < 4 → passwordAt o k .word ≡ 0 =
     λ k l. eqb-true _ 0 (below-at 4 (λ k. eqb (passwordAt o k .word) 0) (and-right (eqb (o .registration .password) 0) _ without) k l) in
-    zero-object o (eqb-true _ 0 (and-left (eqb (o .base) 0) _ zero)) e l (λ k n. zero-password _ (word k n) (vacant-mode o each k n (word k n)))
-    (registration-none o m registration (eqb-true _ 0 (and-left (eqb (o .registration .password) 0) _ without)))
+    zero-object o (eqb-true _ 0 base) e l (λ k n. zero-password _ (word k n) (vacant-mode o each k n (word k n)))
+    (registration-none o m registration (eqb-true _ 0 (and-left (eqb (o .registration .password) 0) _ without))) (eqb-true _ 0 account)
 
 -- a free place is sound in each estate
 pub free-sound : (d : ℕ) → objectOk freeObject d ≡ true

@@ -35,10 +35,11 @@ new-word o word h =
     or-unless (eqb word 0) _
     (λ z. let n = has-none o word h (not-zero word z) in and-both (ap not (n .registration)) (absent-tabulate word 4 _ (n .ordinary)))
 
--- a new object with a password, whose pages lie in the estate
-pub new-sound : (base pages word d : ℕ) → 0 < pages → 0 < word → 32 * d ≤ base → base + pages ≤ 32 * d + 32 → objectOk (newObject base pages word) d ≡ true
+-- a new object with a password, on one of the accounts, whose pages lie in the estate
+pub new-sound : (base pages word account d : ℕ) → 0 < pages → 0 < word → account < 4 → 32 * d ≤ base → base + pages ≤ 32 * d + 32
+    → objectOk (newObject base pages word account) d ≡ true
 unfolding newObject distinct
-new-sound base pages word d n w a b =
+new-sound base pages word account d n w c a b =
     parts-object _ d
     (record {
       passwords = refl;
@@ -51,15 +52,16 @@ new-sound base pages word d n w a b =
             vacant = vacant;
             different = distinct-set word (replicate 5 0) 1 (or-unless (eqb word 0) _ other) refl;
             registration = none-registration _ refl;
+            account = c;
           };
       none = λ e. absurd (omega arith);
     })
   where
-    modes : (k : ℕ) → k < 4 → 0 < passwordAt (newObject base pages word) k .word → legal (passwordAt (newObject base pages word) k .mode) ≡ true
+    modes : (k : ℕ) → k < 4 → 0 < passwordAt (newObject base pages word account) k .word → legal (passwordAt (newObject base pages word account) k .mode) ≡ true
     modes k l = set-at (λ _ x. 0 < x .word → legal (x .mode) ≡ true) (replicate 4 noPassword) 0 _ noPassword k (omega arith) (λ e p. refl)
         (λ ne. rw (getD-replicate 4 k noPassword noPassword l) (λ p. absurd (omega arith)))
 
-    vacant : (k : ℕ) → k < 4 → passwordAt (newObject base pages word) k .word ≡ 0 → passwordAt (newObject base pages word) k .mode ≡ 0
+    vacant : (k : ℕ) → k < 4 → passwordAt (newObject base pages word account) k .word ≡ 0 → passwordAt (newObject base pages word account) k .mode ≡ 0
     vacant k l = set-at (λ _ x. x .word ≡ 0 → x .mode ≡ 0) (replicate 4 noPassword) 0 _ noPassword k (omega arith) (λ e z. absurd (omega arith))
         (λ ne z. ap (λ x. x .mode) (getD-replicate 4 k noPassword noPassword l))
 
@@ -93,6 +95,7 @@ password-sound o d i p m z n s h =
                 (sym (tabulate-set 4 (λ x. x .word) (o .passwords) i p noPassword (q .passwords)))
                 (distinct-set (p .word) (allPasswords o) (suc i) n (b .different));
             registration = rw kept-registration (b .registration);
+            account = b .account;
           };
       none = λ e. absurd (omega arith);
     })
@@ -126,6 +129,7 @@ registration-sound o d g l n r s h =
             vacant = b .vacant;
             different = distinct-set (g .password) (allPasswords o) 0 n (b .different);
             registration = r;
+            account = b .account;
           };
       none = λ e. absurd (omega arith);
     })

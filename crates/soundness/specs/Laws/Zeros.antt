@@ -46,12 +46,13 @@ zero-registration g e f n l h =
 
 -- an object
 pub zero-object : (o : Object) → o .base ≡ 0 → o .pages ≡ 0 → length (o .passwords) ≡ 4
-    → ((k : ℕ) → k < 4 → passwordAt o k ≡ noPassword) → o .registration ≡ freeRegistration → o ≡ freeObject
-zero-object o b p l h g =
-    ap (λ n. record { base = n; pages = o .pages; passwords = o .passwords; registration = o .registration }) b
-    ∙ ap (λ n. record { base = 0; pages = n; passwords = o .passwords; registration = o .registration }) p
-    ∙ ap (λ t. record { base = 0; pages = 0; passwords = t; registration = o .registration }) (all-same 4 (o .passwords) noPassword noPassword l h)
-    ∙ ap (λ r. record { base = 0; pages = 0; passwords = replicate 4 noPassword; registration = r }) g
+    → ((k : ℕ) → k < 4 → passwordAt o k ≡ noPassword) → o .registration ≡ freeRegistration → o .account ≡ 0 → o ≡ freeObject
+zero-object o b p l h g a =
+    ap (λ n. record { base = n; pages = o .pages; passwords = o .passwords; registration = o .registration; account = o .account }) b
+    ∙ ap (λ n. record { base = 0; pages = n; passwords = o .passwords; registration = o .registration; account = o .account }) p
+    ∙ ap (λ t. record { base = 0; pages = 0; passwords = t; registration = o .registration; account = o .account }) (all-same 4 (o .passwords) noPassword noPassword l h)
+    ∙ ap (λ r. record { base = 0; pages = 0; passwords = replicate 4 noPassword; registration = r; account = o .account }) g
+    ∙ ap (λ n. record { base = 0; pages = 0; passwords = replicate 4 noPassword; registration = freeRegistration; account = n }) a
 
 -- a frame
 pub zero-frame : (f : Frame) → length (f .slots) ≡ 8 → ((k : ℕ) → k < 8 → slotAt f k ≡ noCapability) → f .count ≡ 0 → f .locked ≡ 0

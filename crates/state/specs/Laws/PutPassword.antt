@@ -52,7 +52,7 @@ module _ (o : Object) (k word : ℕ) (r : WordRoom o k word) (p : Password) wher
 -- The same password put at a place for it, in the same object, leaves the same object.
 pub put-word-same : (o o′ : Object) (k k′ word : ℕ) (p : Password) → WordRoom o k word → WordRoom o′ k′ word → (0 < p .word → p .word ≡ word)
     → SameObject o o′ → SameObject (putPassword o k p) (putPassword o′ k′ p)
-put-word-same o o′ k k′ word p r r′ own m = record { base = m .base; pages = m .pages; modes = λ w. mode w (same-or-not w word); registration = m .registration }
+put-word-same o o′ k k′ word p r r′ own m = record { base = m .base; pages = m .pages; modes = λ w. mode w (same-or-not w word); registration = m .registration; account = m .account }
   where
     mode : (w : ℕ) → (w ≡ word) ⊎ (w ≡ word → ⊥) → ordinaryMode (putPassword o k p) w ≡ ordinaryMode (putPassword o′ k′ p) w
     mode w (inl e) = rw e (word-own o k word r p ∙ sym (word-own o′ k′ word r′ p))
@@ -61,4 +61,4 @@ put-word-same o o′ k k′ word p r r′ own m = record { base = m .base; pages
 -- Another registration leaves the same object.
 pub register-same : (o o′ : Object) (g : Registration) → SameObject o o′ → SameObject (withRegistration o g) (withRegistration o′ g)
 unfolding ordinaryMode
-register-same o o′ g m = record { base = m .base; pages = m .pages; modes = m .modes; registration = same-refl (withRegistration o g) .registration }
+register-same o o′ g m = record { base = m .base; pages = m .pages; modes = m .modes; registration = same-refl (withRegistration o g) .registration; account = m .account }

@@ -11,7 +11,7 @@ use Rattle.state.specs.declared.Table.{Table}
 -- an object is the same as itself
 pub same-refl : (o : Object) → SameObject o o
 same-refl o =
-    record { base = refl; pages = refl; modes = λ w. refl; registration = record { password = refl; list = λ p. refl; count = λ p. refl; entry = λ p k l. refl } }
+    record { base = refl; pages = refl; modes = λ w. refl; registration = record { password = refl; list = λ p. refl; count = λ p. refl; entry = λ p k l. refl }; account = refl }
 
 -- whichever of two is named first
 pub same-sym : {o o′ : Object} → SameObject o o′ → SameObject o′ o
@@ -28,6 +28,7 @@ same-sym m =
             count = λ p. sym (r .count (omega arith));
             entry = λ p k l. sym (r .entry (omega arith) k (omega (arith, r .count (omega arith))));
           };
+      account = sym (m .account);
     }
 
 -- and through a third
@@ -46,6 +47,7 @@ same-trans m n =
             count = λ p. r .count p ∙ q .count (omega arith);
             entry = λ p k l. r .entry p k l ∙ q .entry (omega arith) k (omega (arith, r .count p));
           };
+      account = m .account ∙ n .account;
     }
 
 -- a table has the same objects as itself
