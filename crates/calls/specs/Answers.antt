@@ -1,11 +1,11 @@
--- Each answer as numbers: that of document 01, "In checking order", and what stands behind it.
+-- Each answer as numbers: that of document 01, "In checking order", and of document 02, T-05, and what stands behind it.
 use Prim.Native.Nat.{ℕ}
 use mathlib.Core.Bool.{cond}
 use mathlib.Core.List.{List, [], _∷_}
 use lib.Dec.{eqb}
 use lib.ListN.{take, replicate}
 use Rattle.calls.specs.declared.Refusal.{Refusal}
-use Rattle.calls.specs.declared.Refusal.the-variants.{StoreLength, Unsound, NoDomain, OutOfRange, Locked, NotGranted, NotEntry, NoRun, HasPassword, Full, Missing}
+use Rattle.calls.specs.declared.Refusal.the-variants.{StoreLength, Unsound, NoDomain, OutOfRange, Locked, NotGranted, NotEntry, NoRun, NotPermitted, LimitPassed, HasPassword, Full, Missing}
 use Rattle.calls.specs.declared.Answer.{Answer}
 use Rattle.calls.specs.declared.Answer.the-variants.{Done, Refused}
 use Rattle.calls.specs.declared.Fields.{Fields}
@@ -20,6 +20,8 @@ refusalNumber Locked = 6
 refusalNumber NotGranted = 7
 refusalNumber NotEntry = 8
 refusalNumber NoRun = 9
+refusalNumber NotPermitted = 14
+refusalNumber LimitPassed = 15
 refusalNumber HasPassword = 10
 refusalNumber Full = 11
 refusalNumber Missing = 12

@@ -8,7 +8,7 @@ use Rattle.state.specs.declared.Object.{Object}
 use Rattle.state.specs.declared.Frame.{Frame}
 use Rattle.judge.specs.declared.Target.the-variants.{Address, Base}
 use Rattle.calls.specs.Answers.{noFields}
-use Rattle.calls.specs.View.{Want, nothing, rights, View, Check, objectOf}
+use Rattle.calls.specs.View.{Want, nothing, rights, Charge, View, Check, objectOf}
 use Rattle.calls.specs.Changes.{Change, becomes, active}
 use Rattle.calls.specs.declared.Presented.{Presented}
 use Rattle.calls.specs.declared.Fields.{Fields}
@@ -29,7 +29,9 @@ pub record Rule : Type 0 where
   -- 7: the rights that it wants, and the Clist capability that it presents
   pub want : Want
   pub presents : Option Presented
-  -- 8 to 12
+  -- 14 and 15: what it charges
+  pub charges : Option Charge
+  -- 8 to 12, with 14 and 15 behind 9
   pub rest : ℕ → View → List Check
   -- what it answers and changes once it is done
   pub value : View → ℕ
@@ -38,14 +40,15 @@ pub record Rule : Type 0 where
   pub touch : Touch
 
 -- a rule by its parts, in this order
-abbrev pub says : Bool → (Frame → Bool) → Want → Option Presented → (ℕ → View → List Check) → (View → ℕ) → (View → Fields) → (ℕ → View → List Change)
-    → Touch → Rule
-says range unlocked want presents rest value fields changes touch =
+abbrev pub says : Bool → (Frame → Bool) → Want → Option Presented → Option Charge → (ℕ → View → List Check) → (View → ℕ) → (View → Fields)
+    → (ℕ → View → List Change) → Touch → Rule
+says range unlocked want presents charges rest value fields changes touch =
     record {
       range = range;
       unlocked = unlocked;
       want = want;
       presents = presents;
+      charges = charges;
       rest = rest;
       value = value;
       fields = fields;
@@ -74,17 +77,21 @@ inStore a = ltb a 8192
 abbrev pub isPage : ℕ → Bool
 isPage p = ltb p 128
 
+-- one of the four accounts
+abbrev pub isAccount : ℕ → Bool
+isAccount a = ltb a 4
+
 -- an access: rights at an address
 abbrev pub access : Bool → ℕ → ℕ → (View → ℕ) → List Change → Touch → Rule
-access range a r value changes touch = says range always (rights (Address a) r) none (λ d v. []) value untold (λ d v. changes) touch
+access range a r value changes touch = says range always (rights (Address a) r) none none (λ d v. []) value untold (λ d v. changes) touch
 
 -- a call on the object with a base; where no object has that base, nothing is granted
 abbrev pub onObject : Bool → (Frame → Bool) → ℕ → ℕ → Option Presented → (Object → List Check) → (Object → Object) → Rule
 onObject range unlocked b r presents rest after =
-    says range unlocked (rights (Base b) r) presents (λ d v. rest (objectOf (v .found))) valueless untold
+    says range unlocked (rights (Base b) r) presents none (λ d v. rest (objectOf (v .found))) valueless untold
     (λ d v. becomes b v (after (objectOf (v .found)))) (touchesObject b)
 
 -- a call on the slots and locks of the caller's frame
 abbrev pub onFrame : Bool → (Frame → Bool) → Option Presented → (Frame → List Check) → (Frame → Frame) → Touch → Rule
 onFrame range unlocked presents rest after touch =
-    says range unlocked nothing presents (λ d v. rest (v .domain .active)) valueless untold (λ d v. active d v (after (v .domain .active))) touch
+    says range unlocked nothing presents none (λ d v. rest (v .domain .active)) valueless untold (λ d v. active d v (after (v .domain .active))) touch

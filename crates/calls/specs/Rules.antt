@@ -11,10 +11,10 @@ use Rattle.state.specs.Lookup.{freePlace, freePasswordPlace, hasPassword}
 use Rattle.state.specs.Update.{insertSlot, removeSlot, lockSlot, saveDomain, restoreDomain, newObject, withRegistration, addPassword, dropPassword, withObject}
 use Rattle.state.specs.declared.Frame.{Frame}
 use Rattle.judge.specs.declared.Target.the-variants.{Address}
-use Rattle.calls.specs.View.{Want, nothing, rights, World, Judging, View, Check, check, search, passes, isSome, objectOf, wordOf, pairOf}
+use Rattle.calls.specs.View.{Want, nothing, rights, Charge, World, Judging, View, Check, check, search, passes, permitted, withinLimit, isSome, objectOf, wordOf, pairOf}
 use Rattle.calls.specs.Arguments.{entriesAll, runFree, isEntry}
 use Rattle.calls.specs.Changes.{frameFields, Change, word, zeros, estate, domain, capability, registration, entered}
-use Rattle.calls.specs.Rule.{Touch, touchesNothing, touchesWord, touchesSlots, Rule, says, always, unlessWhole, valueless, untold, inStore, isPage, access, onObject, onFrame}
+use Rattle.calls.specs.Rule.{Touch, touchesNothing, touchesWord, touchesSlots, Rule, says, always, unlessWhole, valueless, untold, inStore, isPage, isAccount, access, onObject, onFrame}
 use Rattle.calls.specs.declared.Call.{Call}
 use Rattle.calls.specs.declared.Call.the-variants.{OnStore, OnObject, OnDomain}
 use Rattle.calls.specs.declared.Access.{Access}
@@ -25,7 +25,7 @@ use Rattle.calls.specs.declared.DomainCall.{DomainCall}
 use Rattle.calls.specs.declared.DomainCall.the-variants.{Insert, Remove, Get, Lock, PdxCall, PdxReturn}
 use Rattle.calls.specs.declared.Presented.{Presented}
 use Rattle.calls.specs.declared.Fields.{Fields}
-use Rattle.calls.specs.declared.Refusal.the-variants.{NoDomain, OutOfRange, Locked, NotGranted, NotEntry, NoRun, HasPassword, Full, Missing}
+use Rattle.calls.specs.declared.Refusal.the-variants.{NoDomain, OutOfRange, Locked, NotGranted, NotEntry, NoRun, NotPermitted, LimitPassed, HasPassword, Full, Missing}
 
 abbrev accessRule : Access → Rule
 -- RD: the value is the word
@@ -38,13 +38,17 @@ accessRule (Execute a) = access (inStore a) a execute (λ v. a) [] touchesNothin
 accessRule (Lookup a r) = access (inStore a && ltb 0 r && ltb r 32) a r (λ v. pairOf (v .found)) [] touchesNothing
 
 abbrev objectRule : ObjectCall → Rule
--- CR: one object more in the caller's estate, with one password in the owner's mode and its words zeroed; the place is the first free one,
--- the program's own choice
-objectRule (Create p n k) =
-    says (isPage p && ltb 0 n && leb n 32 && not (eqb k 0)) always nothing none
-    (λ d v. check NoRun (liesIn (newObject p n k) d && runFree (v .estate) (newObject p n k)) ∷ check Full (ltb (freePlace (v .estate)) 8) ∷ [])
+-- CR: one object more in the caller's estate, with one password in the owner's mode and its words zeroed, its pages charged to an account
+-- (document 02, T-05); the place is the first free one, the program's own choice
+objectRule (Create p n k a) =
+    says (isPage p && ltb 0 n && leb n 32 && not (eqb k 0) && isAccount a) always nothing none (some (record { account = a; pages = n }))
+    (λ d v. check NoRun (liesIn (newObject p n k a) d && runFree (v .estate) (newObject p n k a))
+    ∷ check NotPermitted (v .permits)
+    ∷ check LimitPassed (v .fits)
+    ∷ check Full (ltb (freePlace (v .estate)) 8)
+    ∷ [])
     valueless untold
-    (λ d v. estate d (withObject (v .estate) (freePlace (v .estate)) (newObject p n k)) ∷ zeros (64 * p) (64 * n) ∷ []) touchesNothing
+    (λ d v. estate d (withObject (v .estate) (freePlace (v .estate)) (newObject p n k a)) ∷ zeros (64 * p) (64 * n) ∷ []) touchesNothing
 -- DL: the object goes, its words stay
 objectRule (Delete b) = onObject (isPage b) always b destroy none (λ o. []) (λ o. freeObject)
 -- AP: a password more; the whole lock stops it (document 02, T-03)
@@ -78,13 +82,13 @@ domainRule (Insert i l) =
 domainRule (Remove i) =
     onFrame (ltb i 8) (unlockedFrom i) none (λ f. check Missing (ltb i (f .count)) ∷ []) (λ f. removeSlot f i) touchesSlots
 -- GT: the fields of the frame
-domainRule Get = says true always nothing none (λ d v. []) valueless (λ v. frameFields (v .domain .active)) (λ d v. []) touchesNothing
+domainRule Get = says true always nothing none none (λ d v. []) valueless (λ v. frameFields (v .domain .active)) (λ d v. []) touchesNothing
 -- LO: locks slot i and all before it; 255 sets the whole lock
 domainRule (Lock i) =
     onFrame (ltb i 8 || eqb i 255) always none (λ f. check Missing (eqb i 255 || ltb i (f .count)) ∷ []) (λ f. lockSlot f i) touchesNothing
 -- CA, with choice 0 (merge) or 1 (empty): the domain is saved, and the registered Clist comes in; the value is the entry
 domainRule (PdxCall a ch) =
-    says (inStore a && ltb ch 2) unlessWhole (rights (Address a) pdx) none
+    says (inStore a && ltb ch 2) unlessWhole (rights (Address a) pdx) none none
     (λ d v. check NotEntry (isEntry (objectOf (v .found)) a)
     ∷ check Full (not (eqb ch 0) || ltb (v .domain .active .count) 8)
     ∷ check Full (ltb (v .domain .depth) 4)
@@ -93,7 +97,7 @@ domainRule (PdxCall a ch) =
     (λ d v. domain d (saveDomain (v .domain) (entered ch (v .domain .active) (objectOf (v .found) .registration .list))) ∷ []) touchesSlots
 -- RT: the domain saved last comes back
 domainRule PdxReturn =
-    says true always nothing none (λ d v. check Missing (ltb 0 (v .domain .depth)) ∷ []) valueless untold
+    says true always nothing none none (λ d v. check Missing (ltb 0 (v .domain .depth)) ∷ []) valueless untold
     (λ d v. domain d (restoreDomain (v .domain)) ∷ []) touchesSlots
 
 unfoldable pub rule : Call → Rule
@@ -115,6 +119,9 @@ wanted c = rule c .want
 
 abbrev pub presented : Call → Option Presented
 presented c = rule c .presents
+
+abbrev pub charged : Call → Option Charge
+charged c = rule c .charges
 
 abbrev pub value : Call → View → ℕ
 value c v = rule c .value v
@@ -143,12 +150,12 @@ abbrev pub presentedCheck : Option Presented → View → List Check
 presentedCheck none v = []
 presentedCheck (some l) v = check NotGranted (v .live) ∷ []
 
--- 7 to 12
+-- 7 to 12, with 14 and 15
 unfoldable pub late : ℕ → Call → View → List Check
 unfolding rule
 late d c v = grantedCheck (rule c .want) v ++ presentedCheck (rule c .presents) v ++ rule c .rest d v
 
--- 4 to 12
+-- 4 to 12, with 14 and 15
 unfoldable pub checks : ℕ → Call → View → List Check
 checks d c v = early d c (v .domain .active) ++ late d c v
 
@@ -160,4 +167,6 @@ view judging w d c =
       estate = estateAt (w .state .table) d;
       found = search judging w (domainAt (w .state) d .active) (wanted c);
       live = passes (w .state .table) (presented c);
+      permits = permitted (w .state) d (charged c);
+      fits = withinLimit (w .state) d (charged c);
     }

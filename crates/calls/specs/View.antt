@@ -1,10 +1,12 @@
 -- The view of a call: all that it reads, with the search of document 01, "How an access is judged". And what a check is.
-use Prim.Native.Nat.{ℕ, _/_}
-use mathlib.Core.Bool.{Bool, true, false, cond}
+use Prim.Native.Nat.{ℕ, _+_, _/_}
+use mathlib.Core.Bool.{Bool, true, false, not, cond, _||_}
 use mathlib.Core.List.{List, [], _∷_}
 use mathlib.Core.Option.{Option, none, some}
+use lib.Dec.{leb}
 use lib.ListN.{getD}
-use Rattle.state.specs.Places.{noEstate, freeObject, estateOf}
+use Rattle.state.specs.Places.{noEstate, freeObject, estateOf, limitAt}
+use Rattle.state.specs.Pages.{pagesOf, mayCharge}
 use Rattle.state.specs.declared.Object.{Object}
 use Rattle.state.specs.declared.Estate.{Estate}
 use Rattle.state.specs.declared.Table.{Table}
@@ -43,6 +45,11 @@ pub data Want : Type 0 where
   nothing : Want
   rights : Target → ℕ → Want
 
+-- what a call charges: pages to an account (document 02, T-05)
+pub record Charge : Type 0 where
+  pub account : ℕ
+  pub pages : ℕ
+
 -- what a granted search gives: the granting pair's address, the object, its estate, and the word at the address
 pub record Found : Type 0 where
   pub pair : ℕ
@@ -79,12 +86,26 @@ abbrev pub passes : Table → Option Presented → Bool
 passes t none = true
 passes t (some l) = live t (record { page = l .page; password = l .password })
 
--- all that a call of a domain reads: its domain and estate, what its search gives, and whether what it presents is live
+-- whether the account is in the domain's set
+abbrev pub permitted : State → ℕ → Option Charge → Bool
+permitted s d none = true
+permitted s d (some c) = mayCharge (s .accounts) d (c .account)
+
+-- whether the account's pages, with those charged, are at most its limit; both are read only where the domain may charge the account
+abbrev pub withinLimit : State → ℕ → Option Charge → Bool
+withinLimit s d none = true
+withinLimit s d (some c) =
+    not (mayCharge (s .accounts) d (c .account)) || leb (pagesOf (s .table) (c .account) + c .pages) (limitAt (s .accounts) (c .account))
+
+-- all that a call of a domain reads: its domain and estate, what its search gives, whether what it presents is live, and whether what it
+-- charges is permitted and within the limit
 pub record View : Type 0 where
   pub domain : Domain
   pub estate : Estate
   pub found : Option Found
   pub live : Bool
+  pub permits : Bool
+  pub fits : Bool
 
 -- of what a search found: whether it was granted, the object, its estate, the word and the pair
 abbrev pub isSome : Option Found → Bool

@@ -31,6 +31,7 @@ pub enum ObjectCall {
         page: u64,
         pages: u64,
         password: u64,
+        account: u64,
     },
     Delete {
         base: u64,
@@ -87,6 +88,8 @@ pub enum Refusal {
     NotGranted,
     NotEntry,
     NoRun,
+    NotPermitted,
+    LimitPassed,
     HasPassword,
     Full,
     Missing,

@@ -31,6 +31,8 @@ pub fn refusal_number(why: Refusal) -> u64
         Refusal::NotGranted => return 7,
         Refusal::NotEntry => return 8,
         Refusal::NoRun => return 9,
+        Refusal::NotPermitted => return 14,
+        Refusal::LimitPassed => return 15,
         Refusal::HasPassword => return 10,
         Refusal::Full => return 11,
         Refusal::Missing => return 12,
