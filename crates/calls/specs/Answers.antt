@@ -26,6 +26,22 @@ refusalNumber HasPassword = 10
 refusalNumber Full = 11
 refusalNumber Missing = 12
 
+-- the place of a refusal in checking order: 14 and 15 come behind 9, the others as their numbers rise (document 02, T-05)
+abbrev pub refusalPlace : Refusal → ℕ
+refusalPlace StoreLength = 2
+refusalPlace Unsound = 3
+refusalPlace NoDomain = 4
+refusalPlace OutOfRange = 5
+refusalPlace Locked = 6
+refusalPlace NotGranted = 7
+refusalPlace NotEntry = 8
+refusalPlace NoRun = 9
+refusalPlace NotPermitted = 10
+refusalPlace LimitPassed = 11
+refusalPlace HasPassword = 12
+refusalPlace Full = 13
+refusalPlace Missing = 14
+
 -- a done call answers 0
 abbrev pub numberOf : Answer → ℕ
 numberOf (Done value) = 0

@@ -9,6 +9,7 @@ pub mod Locks
 pub mod Searched
 pub mod Fit
 pub mod Sound
+pub mod Plan
 pub mod Booted
 pub mod Agree
 pub mod Viewed

@@ -11,7 +11,7 @@ use Rattle.calls.specs.declared.DomainCall.the-variants.{Insert, Remove,
 -- the whole lock stops AP, RG, IN, RM and CA
 abbrev pub wholeStops : Call → Bool
 wholeStops (OnStore c) = false
-wholeStops (OnObject (Create p n k)) = false
+wholeStops (OnObject (Create p n k a)) = false
 wholeStops (OnObject (Delete b)) = false
 wholeStops (OnObject (AddPassword b k m)) = true
 wholeStops (OnObject (DropPassword b k)) = false

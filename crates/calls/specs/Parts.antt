@@ -13,6 +13,7 @@ use Rattle.state.specs.declared.Object.{Object}
 use Rattle.state.specs.declared.Table.{Table}
 use Rattle.state.specs.declared.Frame.{Frame}
 use Rattle.state.specs.declared.Domain.{Domain}
+use Rattle.state.specs.declared.Accounts.{Accounts}
 use Rattle.state.specs.declared.State.{State}
 use Rattle.calls.specs.Answers.{noFields}
 use Rattle.calls.specs.Step.{world, result, answeredWith, unchecked}
@@ -68,10 +69,10 @@ Answers t f words c a words′ =
     (s : State) (d : ℕ) → Entered words d → s .table ≡ t → domainAt s d .active ≡ f
     → result (answeredWith s a) words′ ≡ unchecked (world s words) d (OnStore c)
 
--- A CALL ON OBJECTS, by a table, the caller and its frame: its answer beside an estate, and the words after it
-abbrev pub Alters : Table → ℕ → Frame → List ℕ → ObjectCall → Altered → List ℕ → Type 0
-Alters t d f words c r words′ =
-    (s : State) → Entered words d → s .table ≡ t → domainAt s d .active ≡ f
+-- A CALL ON OBJECTS, by a table, the accounts, the caller and its frame: its answer beside an estate, and the words after it
+abbrev pub Alters : Table → Accounts → ℕ → Frame → List ℕ → ObjectCall → Altered → List ℕ → Type 0
+Alters t x d f words c r words′ =
+    (s : State) → Entered words d → s .table ≡ t → s .accounts ≡ x → domainAt s d .active ≡ f
     → result (withAltered s r) words′ ≡ unchecked (world s words) d (OnObject c)
 
 -- A CALL ON THE CALLER'S DOMAIN, by a table and that domain: its answer beside the domain

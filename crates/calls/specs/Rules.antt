@@ -167,6 +167,6 @@ view judging w d c =
       estate = estateAt (w .state .table) d;
       found = search judging w (domainAt (w .state) d .active) (wanted c);
       live = passes (w .state .table) (presented c);
-      permits = permitted (w .state) d (charged c);
-      fits = withinLimit (w .state) d (charged c);
+      permits = permitted (w .state .accounts) d (charged c);
+      fits = withinLimit (w .state .table) (w .state .accounts) d (charged c);
     }

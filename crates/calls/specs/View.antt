@@ -12,6 +12,7 @@ use Rattle.state.specs.declared.Estate.{Estate}
 use Rattle.state.specs.declared.Table.{Table}
 use Rattle.state.specs.declared.Frame.{Frame}
 use Rattle.state.specs.declared.Domain.{Domain}
+use Rattle.state.specs.declared.Accounts.{Accounts}
 use Rattle.state.specs.declared.State.{State}
 use Rattle.clists.specs.Clist.{live}
 use Rattle.judge.specs.Search.{targeted}
@@ -87,15 +88,14 @@ passes t none = true
 passes t (some l) = live t (record { page = l .page; password = l .password })
 
 -- whether the account is in the domain's set
-abbrev pub permitted : State → ℕ → Option Charge → Bool
-permitted s d none = true
-permitted s d (some c) = mayCharge (s .accounts) d (c .account)
+abbrev pub permitted : Accounts → ℕ → Option Charge → Bool
+permitted x d none = true
+permitted x d (some c) = mayCharge x d (c .account)
 
 -- whether the account's pages, with those charged, are at most its limit; both are read only where the domain may charge the account
-abbrev pub withinLimit : State → ℕ → Option Charge → Bool
-withinLimit s d none = true
-withinLimit s d (some c) =
-    not (mayCharge (s .accounts) d (c .account)) || leb (pagesOf (s .table) (c .account) + c .pages) (limitAt (s .accounts) (c .account))
+abbrev pub withinLimit : Table → Accounts → ℕ → Option Charge → Bool
+withinLimit t x d none = true
+withinLimit t x d (some c) = not (mayCharge x d (c .account)) || leb (pagesOf t (c .account) + c .pages) (limitAt x (c .account))
 
 -- all that a call of a domain reads: its domain and estate, what its search gives, whether what it presents is live, and whether what it
 -- charges is permitted and within the limit

@@ -102,7 +102,7 @@ module _ (s : State) (words words′ : List ℕ) (d : ℕ) (m : SameToEnds (s .t
 
   object-alike : (c : ObjectCall) (j : Judgement) → ComesAlike (OnObject c) (sees (world s words) d (OnObject c) j) (sees (world s words′) d (OnObject c) j)
   unfolding late changes
-  object-alike (Create p n k) j = (refl, (λ e. refl), refl, refl, λ b h. zeroed-alike (64 * p) (64 * n) words words′ b (m .long) h)
+  object-alike (Create p n k a) j = (refl, (λ e. refl), refl, refl, λ b h. zeroed-alike (64 * p) (64 * n) words words′ b (m .long) h)
   object-alike (Delete b) (Granted p) = (refl, (λ e. refl), refl, refl, λ a h. h)
   object-alike (Delete b) Refused = (refl, (λ e. refl), refl, refl, λ a h. h)
   object-alike (AddPassword b k m) (Granted p) = (refl, (λ e. refl), refl, refl, λ a h. h)

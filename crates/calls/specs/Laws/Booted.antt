@@ -1,18 +1,17 @@
 -- What BT leaves: a sound state, and a store of 8,192 words.
 use Prim.Native.Nat.{ℕ, _*_, _<_}
 use mathlib.Core.Path.{_≡_, refl, ap}
-use mathlib.Core.Bool.{true, not}
+use mathlib.Core.Bool.{true}
 use mathlib.Core.List.{List, [], _∷_}
 use mathlib.Core.Logic.{_↔_, Iff·trans}
 use mathlib.Core.Option.{Option, none, some}
 use native.Mathlib.Omega.{arith}
-use lib.Dec.{ltb, eqb}
+use lib.Dec.{ltb}
 use lib.ListN.{length, length-set, length-replicate, getD-replicate}
-use Rattle.bounded.specs.Every.{below-at}
 use Rattle.bounded.specs.Fill.{tabulate-at}
 use Rattle.state.specs.Places.{noObject, noEstate, noDomain, freeObject, emptyEstate, emptyDomain, emptyState}
 use Rattle.state.specs.Update.{newObject}
-use Rattle.state.specs.Laws.Extent.{not-zero, apart-free, apart-sym}
+use Rattle.state.specs.Laws.Extent.{apart-free, apart-sym}
 use Rattle.soundness.specs.Sound.{estateOk, domainOk, sound}
 use Rattle.soundness.specs.Laws.Frames.{only-sound}
 use Rattle.soundness.specs.Laws.Domains.{active-sound, empty-domain}
@@ -22,10 +21,11 @@ use Rattle.soundness.specs.Laws.StateParts.{parts-state}
 use Rattle.calls.specs.Answers.{numberOf}
 use Rattle.calls.specs.View.{Check, check, firstFailing}
 use Rattle.calls.specs.Step.{refused, world, result, doneWith, storeCheck}
-use Rattle.calls.specs.Boot.{homeOf, homeEstate, homeDomain, bootState, homePair, bootWords, booted, homesOk, bootedBy, boot}
+use Rattle.calls.specs.Boot.{homeOf, accountOf, homeEstate, homeDomain, bootState, homePair, bootWords, booted, planOk, bootedBy, boot}
 use Rattle.calls.specs.Laws.Order.{ascending, AllHold, FailsFirst, none-fails, first-fails, Answering, answers-refused, answers-done}
 use Rattle.calls.specs.Laws.Passed.{Unchanged}
-use borrow.Author.Tests.{eq-eqb, lt-ltb, not-true}
+use Rattle.calls.specs.Laws.Plan.{plan-bounds, in-set-account, boot-accounts-sound}
+use borrow.Author.Tests.{eq-eqb, lt-ltb}
 use Rattle.calls.specs.Parts.{callerOf}
 use Rattle.calls.specs.Laws.Returns.{caller-known, caller-unknown}
 use Rattle.calls.specs.declared.Caller.the-variants.{Known, Refused as Caller·Refused}
@@ -33,92 +33,95 @@ use Rattle.calls.specs.declared.Refusal.{Refusal}
 use Rattle.calls.specs.declared.Refusal.the-variants.{NoDomain, OutOfRange}
 use Rattle.calls.specs.declared.Answer.the-variants.{Refused}
 
-home-estate : (homes : List ℕ) (d : ℕ) → 0 < homeOf homes d → estateOk (homeEstate homes d) d ≡ true
+home-estate : (plan : List ℕ) (d : ℕ) → 0 < homeOf plan d → accountOf plan d < 4 → estateOk (homeEstate plan d) d ≡ true
 unfolding homeEstate
-home-estate homes d p =
-    object-apart-sound emptyEstate d 0 (newObject (32 * d) 1 (homeOf homes d)) (new-sound (32 * d) 1 (homeOf homes d) d (omega arith) p (omega arith) (omega arith))
+home-estate plan d p u =
+    object-apart-sound emptyEstate d 0 (newObject (32 * d) 1 (homeOf plan d) (accountOf plan d))
+    (new-sound (32 * d) 1 (homeOf plan d) (accountOf plan d) d (omega arith) p u (omega arith) (omega arith))
     (λ j l ne. rw (getD-replicate 8 j freeObject noObject l) (apart-sym _ freeObject (apart-free _ freeObject refl))) (empty-estate d)
 
-home-domain : (homes : List ℕ) (d : ℕ) → d < 4 → domainOk (homeDomain homes d) ≡ true
+home-domain : (plan : List ℕ) (d : ℕ) → d < 4 → domainOk (homeDomain plan d) ≡ true
 unfolding homeDomain
-home-domain homes d l = active-sound emptyDomain _ (only-sound (record { page = 32 * d; password = homeOf homes d }) (omega arith)) empty-domain
+home-domain plan d l = active-sound emptyDomain _ (only-sound (record { page = 32 * d; password = homeOf plan d }) (omega arith)) empty-domain
 
--- the state of a boot is sound, whatever the home passwords are but 0
-pub boot-state-sound : (homes : List ℕ) → homesOk homes ≡ true → sound (bootState homes) ≡ true
-unfolding bootState homesOk
-boot-state-sound homes h =
+-- the state of a boot is sound, whatever its numbers are in range
+pub boot-state-sound : (plan : List ℕ) → planOk plan ≡ true → sound (bootState plan) ≡ true
+unfolding bootState
+boot-state-sound plan h =
+    let b = plan-bounds plan h in
     parts-state _
     (record {
       long-estates = refl;
       long-domains = refl;
-      estate = λ d l. rw (tabulate-at 4 (homeEstate homes) d noEstate l) (home-estate homes d (not-zero _ (not-true _ (below-at 4 (λ k. not (eqb (homeOf homes k) 0)) h d l))));
-      domain = λ d l. rw (tabulate-at 4 (homeDomain homes) d noDomain l) (home-domain homes d l);
+      estate = λ d l. rw (tabulate-at 4 (homeEstate plan) d noEstate l) (home-estate plan d (b .home d l) (in-set-account _ _ (b .own d l)));
+      domain = λ d l. rw (tabulate-at 4 (homeDomain plan) d noDomain l) (home-domain plan d l);
+      accounts = boot-accounts-sound plan b;
     })
 
 -- its store has 8,192 words
-pub boot-words-length : (homes : List ℕ) → length (bootWords homes) ≡ 8192
+pub boot-words-length : (plan : List ℕ) → length (bootWords plan) ≡ 8192
 unfolding bootWords homePair
-boot-words-length homes = simp (length-set, length-replicate)
+boot-words-length plan = simp (length-set, length-replicate)
 
 -- the checks of BT: 2, 4 and 5
 abbrev pub bootChecks : List ℕ → ℕ → List ℕ → List Check
-bootChecks words d homes =
+bootChecks words d plan =
     storeCheck (world emptyState words)
     ∷ check NoDomain (ltb d 4)
-    ∷ check OutOfRange (homesOk homes)
+    ∷ check OutOfRange (planOk plan)
     ∷ []
 
-module _ (words : List ℕ) (d : ℕ) (homes : List ℕ) where
+module _ (words : List ℕ) (d : ℕ) (plan : List ℕ) where
   -- BT by a caller that is known, and by one that is not
-  pub boot-known : (k : ℕ) → callerOf (length words) d ≡ Known k → bootedBy words homes ≡ boot words d homes
+  pub boot-known : (k : ℕ) → callerOf (length words) d ≡ Known k → bootedBy words plan ≡ boot words d plan
   unfolding boot
   boot-known k h = let (e, q) = caller-known words d k h in rw (eq-eqb _ 8192 (e .long), lt-ltb d 4 (e .known))
 
-  pub boot-unknown : (why : Refusal) → callerOf (length words) d ≡ Caller·Refused why → refused (world emptyState words) why ≡ boot words d homes
+  pub boot-unknown : (why : Refusal) → callerOf (length words) d ≡ Caller·Refused why → refused (world emptyState words) why ≡ boot words d plan
   unfolding boot
   boot-unknown why h =
-      caller-unknown (λ x. refused (world emptyState words) why ≡ booted homes words x) words d (check OutOfRange (homesOk homes) ∷ []) why h refl
+      caller-unknown (λ x. refused (world emptyState words) why ≡ booted plan words x) words d (check OutOfRange (planOk plan) ∷ []) why h refl
 
   -- they come in the order of their numbers
-  pub boot-ascends : ascending 2 (bootChecks words d homes) ≡ true
+  pub boot-ascends : ascending 2 (bootChecks words d plan) ≡ true
   unfolding ascending
   boot-ascends = refl
 
-  answering : Answering (λ o. booted homes words o .outcome .answer)
+  answering : Answering (λ o. booted plan words o .outcome .answer)
   answering = record { value = 0; done = refl; refused = λ r. refl }
 
-  boot-said : (why : Refusal) → boot words d homes .outcome .answer ≡ Refused why ↔ firstFailing (bootChecks words d homes) ≡ some why
+  boot-said : (why : Refusal) → boot words d plan .outcome .answer ≡ Refused why ↔ firstFailing (bootChecks words d plan) ≡ some why
   unfolding boot
-  boot-said why = answers-refused answering (firstFailing (bootChecks words d homes)) why
+  boot-said why = answers-refused answering (firstFailing (bootChecks words d plan)) why
 
   -- BT is refused exactly where one of them fails and each before it holds
-  pub boot-first : (why : Refusal) → boot words d homes .outcome .answer ≡ Refused why ↔ FailsFirst (bootChecks words d homes) why
-  boot-first why = Iff·trans (boot-said why) (first-fails (bootChecks words d homes) why)
+  pub boot-first : (why : Refusal) → boot words d plan .outcome .answer ≡ Refused why ↔ FailsFirst (bootChecks words d plan) why
+  boot-first why = Iff·trans (boot-said why) (first-fails (bootChecks words d plan) why)
 
   -- a refused one gives the empty state, and the store as it was
-  pub boot-refused : (why : Refusal) → boot words d homes .outcome .answer ≡ Refused why → Unchanged (world emptyState words) (boot words d homes)
+  pub boot-refused : (why : Refusal) → boot words d plan .outcome .answer ≡ Refused why → Unchanged (world emptyState words) (boot words d plan)
   unfolding boot
   boot-refused why h = rw (boot-said why .0 h) (record { state = refl; words = refl; value = refl; fields = refl })
 
   -- it is done exactly where each of them holds
-  pub boot-hold : numberOf (boot words d homes .outcome .answer) ≡ 0 ↔ AllHold (bootChecks words d homes)
+  pub boot-hold : numberOf (boot words d plan .outcome .answer) ≡ 0 ↔ AllHold (bootChecks words d plan)
   unfolding boot
-  boot-hold = Iff·trans (answers-done answering (firstFailing (bootChecks words d homes))) (none-fails (bootChecks words d homes))
+  boot-hold = Iff·trans (answers-done answering (firstFailing (bootChecks words d plan))) (none-fails (bootChecks words d plan))
 
   -- a done one gives the state and the store of the boot, and the value 0
-  pub boot-done : numberOf (boot words d homes .outcome .answer) ≡ 0 → boot words d homes ≡ result (doneWith (bootState homes) 0) (bootWords homes)
+  pub boot-done : numberOf (boot words d plan .outcome .answer) ≡ 0 → boot words d plan ≡ result (doneWith (bootState plan) 0) (bootWords plan)
   unfolding boot
-  boot-done h = ap (booted homes words) (none-fails (bootChecks words d homes) .1 (boot-hold .0 h))
+  boot-done h = ap (booted plan words) (none-fails (bootChecks words d plan) .1 (boot-hold .0 h))
 
   -- 8,192 words
-  pub boot-long : numberOf (boot words d homes .outcome .answer) ≡ 0 → length (boot words d homes .words) ≡ 8192
-  boot-long h = rw (boot-done h) (boot-words-length homes)
+  pub boot-long : numberOf (boot words d plan .outcome .answer) ≡ 0 → length (boot words d plan .words) ≡ 8192
+  boot-long h = rw (boot-done h) (boot-words-length plan)
 
   -- THE STATE THAT BT GIVES IS SOUND, done or refused
-  pub boot-sound : sound (boot words d homes .outcome .state) ≡ true
+  pub boot-sound : sound (boot words d plan .outcome .state) ≡ true
   unfolding boot
-  boot-sound = go (firstFailing (bootChecks words d homes)) refl
+  boot-sound = go (firstFailing (bootChecks words d plan)) refl
     where
-      go : (o : Option Refusal) → firstFailing (bootChecks words d homes) ≡ o → sound (booted homes words o .outcome .state) ≡ true
-      go none e = boot-state-sound homes (none-fails (bootChecks words d homes) .0 e .1 .1 .0)
+      go : (o : Option Refusal) → firstFailing (bootChecks words d plan) ≡ o → sound (booted plan words o .outcome .state) ≡ true
+      go none e = boot-state-sound plan (none-fails (bootChecks words d plan) .0 e .1 .1 .0)
       go (some r) e = empty-sound

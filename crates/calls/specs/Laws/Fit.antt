@@ -79,18 +79,34 @@ module _ (w : World) (f : Frame) (b r : ℕ) (h : sound (w .state) ≡ true) (s 
   unfolding objectBased based placeBased
   owned-becomes o = rw (was-granted w f (Base b) r s .judgement) (λ m p. found-run-sound (hasBase b) _ (b / 32) o (found .stands) m p (found .sound-estate))
 
+-- CR is asked for some page, a password that is not 0, and an account
+pub record CreateRange (n k a : ℕ) : Type 0 where
+  pub pages : 0 < n
+  pub word : 0 < k
+  pub account : a < 4
+
+pub create-range : (p n k a : ℕ) → inRange (OnObject (Create p n k a)) ≡ true → CreateRange n k a
+unfolding inRange
+create-range p n k a r =
+    let first = and-left _ (ltb a 4) r in
+    record {
+      pages = ltb-true 0 n (and-right (ltb p 128) _ (and-left (ltb p 128 && ltb 0 n) _ (and-left _ _ first)));
+      word = not-zero k (not-true _ (and-right (ltb p 128 && ltb 0 n && leb n 32) _ first));
+      account = ltb-true a 4 (and-right (ltb p 128 && ltb 0 n && leb n 32 && not (eqb k 0)) _ r);
+    }
+
 -- a new object that lies in the estate and meets no other
-pub new-fit : (e : Estate) (d place p n k : ℕ) → inRange (OnObject (Create p n k)) ≡ true → estateOk e d ≡ true → liesIn (newObject p n k) d && runFree e (newObject p n k) ≡ true
-    → (estateOk (withObject e place (newObject p n k)) d ≡ true) × (p + n ≤ 32 * d + 32)
+pub new-fit : (e : Estate) (d place p n k a : ℕ) → inRange (OnObject (Create p n k a)) ≡ true → estateOk e d ≡ true
+    → liesIn (newObject p n k a) d && runFree e (newObject p n k a) ≡ true
+    → (estateOk (withObject e place (newObject p n k a)) d ≡ true) × (p + n ≤ 32 * d + 32)
 unfolding liesIn runFree newObject inRange
-new-fit e d place p n k range h t =
-    let o = newObject p n k in
+new-fit e d place p n k a range h t =
+    let o = newObject p n k a in
     let lies = and-left (liesIn o d) _ t in
     let to = leb-true _ _ (and-right (leb (32 * d) p) _ lies) in
     let clear = below-at 8 (λ j. apart (objectAt e j) o) (and-right (liesIn o d) _ t) in
-    let word = not-zero k (not-true _ (and-right (ltb p 128 && ltb 0 n && leb n 32) _ range)) in
-    let pages = ltb-true 0 n (and-right (ltb p 128) _ (and-left (ltb p 128 && ltb 0 n) _ (and-left _ _ range))) in
-    (object-apart-sound e d place o (new-sound p n k d pages word (leb-true _ _ (and-left _ _ lies)) to) (λ j l ne. clear j l) h, to)
+    let r = create-range p n k a range in
+    (object-apart-sound e d place o (new-sound p n k a d (r .pages) (r .word) (r .account) (leb-true _ _ (and-left _ _ lies)) to) (λ j l ne. clear j l) h, to)
 
 -- a registration as it is asked for, with its entries inside the object
 registered-sound : (o : Object) (k : ℕ) (l : Presented) (es : Entries) → l .page < 128 → 0 < es .count → es .count ≤ 4
@@ -143,8 +159,8 @@ done-fit w d (OnStore (Read a)) h p = tt
 done-fit w d (OnStore (Write a x)) h p = (tt, tt)
 done-fit w d (OnStore (Execute a)) h p = tt
 done-fit w d (OnStore (Lookup a r)) h p = tt
-done-fit w d (OnObject (Create a n k)) h p =
-    let r = new-fit (estateAt (w .state .table) d) d _ a n k (p .range) (state-parts (w .state) h .estate d (p .domain)) (p .rest .0) in
+done-fit w d (OnObject (Create a n k x)) h p =
+    let r = new-fit (estateAt (w .state .table) d) d _ a n k x (p .range) (state-parts (w .state) h .estate d (p .domain)) (p .rest .0) in
     (r .0, (omega (arith, p .domain, r .1), tt))
 done-fit w d (OnObject (Delete b)) h p = (clear-sound _ (b / 32) _ (owned-estate w (domainAt (w .state) d .active) b 8 h (p .rest .0)), tt)
 done-fit w d (OnObject (AddPassword b k m)) h p =

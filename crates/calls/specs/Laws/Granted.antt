@@ -89,7 +89,7 @@ module _ (w : World) (d : ℕ) (c : Call) where
   unfolding checks early late view
   answers-seven =
       Iff·trans
-      (answers-level w d c 7 front sevens later refl (omega arith) (omega arith, (omega arith, (omega arith, (omega arith, (omega arith, tt))))) sevens-level
+      (answers-level w d c 7 front sevens later refl (omega arith) (omega arith) (omega arith, (omega arith, (omega arith, (omega arith, (omega arith, tt))))) sevens-level
       (rest-ascends d c (view judged w d c)))
       (Iff·and front-hold (Iff·not sevens-hold))
 

@@ -11,12 +11,12 @@ use borrow.Author.Tests.{leb-true, eqb-true, eq-eqb, ltb-true, lt-ltb}
 use Rattle.bounded.specs.Bools.{and-left, and-right}
 use Rattle.state.specs.Places.{domainAt}
 use Rattle.judge.specs.Judged.{judged}
-use Rattle.calls.specs.Answers.{refusalNumber, numberOf}
+use Rattle.calls.specs.Answers.{refusalNumber, refusalPlace, numberOf}
 use Rattle.calls.specs.View.{World, Check, check, firstFailing}
 use Rattle.calls.specs.Rules.{inRange, unlocked, view}
 use Rattle.calls.specs.Step.{stepBy, concluded, storeCheck, soundCheck}
 use Rattle.calls.specs.Authority.{answered, Comes}
-use Rattle.calls.specs.Laws.Order.{allChecks, AllHold, ascending}
+use Rattle.calls.specs.Laws.Order.{allChecks, AllHold, ascending, ascends-from, place-number}
 use Rattle.calls.specs.declared.Call.{Call}
 use Rattle.calls.specs.declared.Refusal.{Refusal}
 use Rattle.calls.specs.declared.Refusal.the-variants.{NoDomain, OutOfRange, Locked}
@@ -51,23 +51,22 @@ past-lower n (check r true ∷ front) back b =
     (λ h. let t = more .0 h in ((refl, t .0), t .1), λ h. more .1 (h .0 .1, h .1))
 past-lower n (check r false ∷ front) back b = (λ h. absurd (omega (arith, b .0)), λ h. absurd (true≢false (sym (h .0 .0))))
 
--- where the numbers are `n` or more, nothing or such a number is answered
-from-above : (n k : ℕ) (cs : List Check) → ascending n cs ≡ true → number (firstFailing cs) ≡ k → 0 < k → n ≤ k
+-- where the places are `n` or more, up to 10, nothing or such a number is answered
+from-above : (n k : ℕ) (cs : List Check) → n ≤ 10 → ascending n cs ≡ true → number (firstFailing cs) ≡ k → 0 < k → n ≤ k
 unfolding ascending
-from-above n k [] a h p = absurd (omega arith)
-from-above n k (check r true ∷ cs) a h p =
-    let m = leb-true n (refusalNumber r) (and-left _ _ a) in
-    let q = from-above (refusalNumber r) k cs (and-right (leb n (refusalNumber r)) _ a) h p in
-    omega arith
-from-above n k (check r false ∷ cs) a h p = omega (arith, leb-true n (refusalNumber r) (and-left _ _ a))
+from-above n k [] u a h p = absurd (omega arith)
+from-above n k (check r true ∷ cs) u a h p =
+    let m = leb-true n (refusalPlace r) (and-left _ _ a) in
+    from-above n k cs u (ascends-from n (refusalPlace r) cs m (and-right (leb n (refusalPlace r)) _ a)) h p
+from-above n k (check r false ∷ cs) u a h p = omega (arith, leb-true n (refusalPlace r) (and-left _ _ a), place-number r)
 
--- checks of the number `n` with later ones of higher numbers answer `n` exactly where they do not all hold
-pub level-fails : (n : ℕ) (same back : List Check) → 0 < n → Level n same → ascending (suc n) back ≡ true
+-- checks of the number `n`, up to 9, with later ones of later places answer `n` exactly where they do not all hold
+pub level-fails : (n : ℕ) (same back : List Check) → 0 < n → n ≤ 9 → Level n same → ascending (suc n) back ≡ true
     → number (firstFailing (same ++ back)) ≡ n ↔ (AllHold same → ⊥)
-level-fails n [] back p l a = (λ h. absurd (omega (arith, from-above (suc n) n back a h p)), λ h. absurd (h tt))
-level-fails n (check r true ∷ same) back p l a =
-    let more = level-fails n same back p (l .1) a in (λ h t. more .0 h (t .1), λ h. more .1 (λ t. h (refl, t)))
-level-fails n (check r false ∷ same) back p l a = (λ h t. true≢false (sym (t .0)), λ h. l .0)
+level-fails n [] back p u l a = (λ h. absurd (omega (arith, from-above (suc n) n back (omega arith) a h p)), λ h. absurd (h tt))
+level-fails n (check r true ∷ same) back p u l a =
+    let more = level-fails n same back p u (l .1) a in (λ h t. more .0 h (t .1), λ h. more .1 (λ t. h (refl, t)))
+level-fails n (check r false ∷ same) back p u l a = (λ h t. true≢false (sym (t .0)), λ h. l .0)
 
 module _ (w : World) (d : ℕ) (c : Call) where
   -- a call is answered with the number of the first check that fails
@@ -80,11 +79,11 @@ module _ (w : World) (d : ℕ) (c : Call) where
       go (some r) = refl
 
   -- and so with `n` exactly where the checks of lower numbers hold, and those of that number do not all
-  pub answers-level : (n : ℕ) (front same back : List Check) → allChecks w d c ≡ front ++ (same ++ back) → 0 < n → Below n front → Level n same
+  pub answers-level : (n : ℕ) (front same back : List Check) → allChecks w d c ≡ front ++ (same ++ back) → 0 < n → n ≤ 9 → Below n front → Level n same
       → ascending (suc n) back ≡ true → answered w d c ≡ n ↔ (AllHold front × (AllHold same → ⊥))
-  answers-level n front same back e p b l a =
+  answers-level n front same back e p u b l a =
       let s = step-number ∙ ap (λ cs. number (firstFailing cs)) e in
-      Iff·trans (λ h. sym s ∙ h, λ h. s ∙ h) (Iff·trans (past-lower n front (same ++ back) b) (Iff·and Iff·rfl (level-fails n same back p l a)))
+      Iff·trans (λ h. sym s ∙ h, λ h. s ∙ h) (Iff·trans (past-lower n front (same ++ back) b) (Iff·and Iff·rfl (level-fails n same back p u l a)))
 
   -- checks 2 to 5, and check 6
   abbrev pub toFive : List Check

@@ -48,7 +48,7 @@ unlocked-is (OnStore (Read a)) f = refl
 unlocked-is (OnStore (Write a x)) f = refl
 unlocked-is (OnStore (Execute a)) f = refl
 unlocked-is (OnStore (Lookup a r)) f = refl
-unlocked-is (OnObject (Create p n k)) f = refl
+unlocked-is (OnObject (Create p n k a)) f = refl
 unlocked-is (OnObject (Delete b)) f = refl
 unlocked-is (OnObject (AddPassword b k m)) f = refl
 unlocked-is (OnObject (DropPassword b k)) f = refl
@@ -94,7 +94,7 @@ module _ (w : World) (d : ℕ) (c : Call) where
   unfolding checks early view
   answers-six =
       Iff·trans
-      (answers-level w d c 6 (toFive w d c) (six w d c) (late d c (view judged w d c)) refl (omega arith) (omega arith, (omega arith, (omega arith, (omega arith, tt)))) (refl, tt)
+      (answers-level w d c 6 (toFive w d c) (six w d c) (late d c (view judged w d c)) refl (omega arith) (omega arith) (omega arith, (omega arith, (omega arith, (omega arith, tt)))) (refl, tt)
       (late-ascends d c (view judged w d c)))
       (Iff·and (comes-hold w d c) six-fails)
 
@@ -114,7 +114,15 @@ whole-passes w d c h p =
 
 -- from 7 on no check looks at the whole lock
 abbrev underLock : View → View
-underLock v = record { domain = withActive (v .domain) (lockSlot (v .domain .active) 255); estate = v .estate; found = v .found; live = v .live }
+underLock v =
+    record {
+      domain = withActive (v .domain) (lockSlot (v .domain .active) 255);
+      estate = v .estate;
+      found = v .found;
+      live = v .live;
+      permits = v .permits;
+      fits = v .fits;
+    }
 
 late-same : (d : ℕ) (c : Call) (v : View) → late d c (underLock v) ≡ late d c v
 unfolding late lockSlot
@@ -122,7 +130,7 @@ late-same d (OnStore (Read a)) v = refl
 late-same d (OnStore (Write a x)) v = refl
 late-same d (OnStore (Execute a)) v = refl
 late-same d (OnStore (Lookup a r)) v = refl
-late-same d (OnObject (Create p n k)) v = refl
+late-same d (OnObject (Create p n k a)) v = refl
 late-same d (OnObject (Delete b)) v = refl
 late-same d (OnObject (AddPassword b k m)) v = refl
 late-same d (OnObject (DropPassword b k)) v = refl

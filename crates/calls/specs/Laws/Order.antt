@@ -1,5 +1,6 @@
--- The order of the checks: document 01, "In checking order". The numbers never fall, and the first check that fails answers.
-use Prim.Native.Nat.{ℕ, _≤_}
+-- The order of the checks: document 01, "In checking order", with 14 and 15 behind 9 (document 02, T-05). The places never fall, and the first
+-- check that fails answers.
+use Prim.Native.Nat.{ℕ, _≤_, min}
 use mathlib.Core.Path.{_≡_, refl, sym, ap, subst, _∙_}
 use mathlib.Core.Bool.{Bool, true, false, _&&_, true≢false}
 use mathlib.Core.List.{List, [], _∷_, _++_}
@@ -10,7 +11,7 @@ use lib.Dec.{leb}
 use borrow.Author.Tests.{leb-true, le-leb}
 use Rattle.bounded.specs.Bools.{and-left, and-right, and-both}
 use Rattle.judge.specs.Judged.{judged}
-use Rattle.calls.specs.Answers.{refusalNumber, numberOf}
+use Rattle.calls.specs.Answers.{refusalNumber, refusalPlace, numberOf}
 use Rattle.calls.specs.View.{World, Want, nothing, rights, View, Check, check, firstFailing}
 use Rattle.calls.specs.Rules.{rule, wanted, presented, grantedCheck, presentedCheck, view, early, late, checks}
 use Rattle.calls.specs.Step.{stepBy, step, refused, concluded, storeCheck, soundCheck}
@@ -21,35 +22,35 @@ use Rattle.calls.specs.declared.ObjectCall.the-variants.{Create, Delete,
 use Rattle.calls.specs.declared.DomainCall.the-variants.{Insert, Remove, Get, Lock, PdxCall, PdxReturn}
 use Rattle.calls.specs.declared.Presented.{Presented}
 use Rattle.calls.specs.declared.Refusal.{Refusal}
-use Rattle.calls.specs.declared.Refusal.the-variants.{StoreLength, Unsound, NoDomain, OutOfRange, Locked, NotGranted, NotEntry, NoRun, HasPassword, Full, Missing}
+use Rattle.calls.specs.declared.Refusal.the-variants.{StoreLength, Unsound, NoDomain, OutOfRange, Locked, NotGranted, NotEntry, NoRun, NotPermitted, LimitPassed, HasPassword, Full, Missing}
 use Rattle.calls.specs.declared.Answer.{Answer}
 use Rattle.calls.specs.declared.Answer.the-variants.{Done, Refused}
 
--- the checks of a call, from 2 to 12
+-- the checks of a call, from 2 on
 abbrev pub allChecks : World → ℕ → Call → List Check
 allChecks w d c = storeCheck w ∷ soundCheck w ∷ checks d c (view judged w d c)
 
--- no number in the list is below `n`, or below one before it
+-- no place in the list is below `n`, or below one before it
 unfoldable pub ascending : ℕ → List Check → Bool
 ascending n [] = true
-ascending n (check r holds ∷ cs) = leb n (refusalNumber r) && ascending (refusalNumber r) cs
+ascending n (check r holds ∷ cs) = leb n (refusalPlace r) && ascending (refusalPlace r) cs
 
--- a lower number may stand before such a list
-ascends-from : (m n : ℕ) (cs : List Check) → m ≤ n → ascending n cs ≡ true → ascending m cs ≡ true
+-- a lower place may stand before such a list
+pub ascends-from : (m n : ℕ) (cs : List Check) → m ≤ n → ascending n cs ≡ true → ascending m cs ≡ true
 unfolding ascending
 ascends-from m n [] l h = refl
 ascends-from m n (check r holds ∷ cs) l h =
-    let k = leb-true n (refusalNumber r) (and-left _ _ h) in
-    and-both (le-leb m (refusalNumber r) (omega arith)) (and-right (leb n (refusalNumber r)) _ h)
+    let k = leb-true n (refusalPlace r) (and-left _ _ h) in
+    and-both (le-leb m (refusalPlace r) (omega arith)) (and-right (leb n (refusalPlace r)) _ h)
 
--- after check 7 the numbers are 8 or more, and never fall, whatever is read
+-- after check 7 the places are 8 or more, and never fall, whatever is read
 pub rest-ascends : (d : ℕ) (c : Call) (v : View) → ascending 8 (rule c .rest d v) ≡ true
 unfolding ascending rule
 rest-ascends d (OnStore (Read a)) v = refl
 rest-ascends d (OnStore (Write a x)) v = refl
 rest-ascends d (OnStore (Execute a)) v = refl
 rest-ascends d (OnStore (Lookup a r)) v = refl
-rest-ascends d (OnObject (Create p n k)) v = refl
+rest-ascends d (OnObject (Create p n k a)) v = refl
 rest-ascends d (OnObject (Delete b)) v = refl
 rest-ascends d (OnObject (AddPassword b k m)) v = refl
 rest-ascends d (OnObject (DropPassword b k)) v = refl
@@ -61,7 +62,7 @@ rest-ascends d (OnDomain (Lock i)) v = refl
 rest-ascends d (OnDomain (PdxCall a ch)) v = refl
 rest-ascends d (OnDomain PdxReturn) v = refl
 
--- from check 7 on the numbers never fall either
+-- from check 7 on the places never fall either
 pub late-ascends : (d : ℕ) (c : Call) (v : View) → ascending 7 (late d c v) ≡ true
 unfolding ascending late
 late-ascends d c v = from-seven (wanted c) (presented c) (rule c .rest d v) (rest-ascends d c v)
@@ -90,10 +91,10 @@ pub record FailsFirst (cs : List Check) (why : Refusal) : Type 0 where
   pub split : cs ≡ before ++ (check why false ∷ after)
   pub hold : AllHold before
 
--- each check of the list that fails has the number `n` or a higher one
+-- each check of the list that fails has the place `n` or a later one
 abbrev pub FailFrom : ℕ → List Check → Type 0
 FailFrom n [] = Unit {0}
-FailFrom n (check r holds ∷ cs) = (holds ≡ false → n ≤ refusalNumber r) × FailFrom n cs
+FailFrom n (check r holds ∷ cs) = (holds ≡ false → n ≤ refusalPlace r) × FailFrom n cs
 
 -- none fails exactly where each holds
 pub none-fails : (cs : List Check) → firstFailing cs ≡ none ↔ AllHold cs
@@ -127,19 +128,19 @@ ascend-from : (m n : ℕ) (cs : List Check) → m ≤ n → ascending n cs ≡ t
 unfolding ascending
 ascend-from m n [] l h = tt
 ascend-from m n (check r holds ∷ cs) l h =
-    let k = leb-true n (refusalNumber r) (and-left _ _ h) in
-    (λ e. omega arith, ascend-from m (refusalNumber r) cs (omega arith) (and-right (leb n (refusalNumber r)) _ h))
+    let k = leb-true n (refusalPlace r) (and-left _ _ h) in
+    (λ e. omega arith, ascend-from m (refusalPlace r) cs (omega arith) (and-right (leb n (refusalPlace r)) _ h))
 
--- where the numbers never fall, the first failing check has the lowest number of those that fail
-pub first-lowest : (n : ℕ) (cs : List Check) (why : Refusal) → ascending n cs ≡ true → firstFailing cs ≡ some why → FailFrom (refusalNumber why) cs
+-- where the places never fall, the first failing check has the earliest place of those that fail
+pub first-earliest : (n : ℕ) (cs : List Check) (why : Refusal) → ascending n cs ≡ true → firstFailing cs ≡ some why → FailFrom (refusalPlace why) cs
 unfolding ascending
-first-lowest n [] why a h = tt
-first-lowest n (check r true ∷ cs) why a h =
-    (λ e. absurd (true≢false e), first-lowest (refusalNumber r) cs why (and-right (leb n (refusalNumber r)) _ a) h)
-first-lowest n (check r false ∷ cs) why a h =
+first-earliest n [] why a h = tt
+first-earliest n (check r true ∷ cs) why a h =
+    (λ e. absurd (true≢false e), first-earliest (refusalPlace r) cs why (and-right (leb n (refusalPlace r)) _ a) h)
+first-earliest n (check r false ∷ cs) why a h =
     let e : r ≡ why = cc in
-    let k : refusalNumber why ≤ refusalNumber r = rw e (omega arith) in
-    (λ f. k, ascend-from (refusalNumber why) (refusalNumber r) cs k (and-right (leb n (refusalNumber r)) _ a))
+    let k : refusalPlace why ≤ refusalPlace r = rw e (omega arith) in
+    (λ f. k, ascend-from (refusalPlace why) (refusalPlace r) cs k (and-right (leb n (refusalPlace r)) _ a))
 
 -- a refusal has another number than a done call
 pub refusal-number : (r : Refusal) → 2 ≤ refusalNumber r
@@ -151,9 +152,27 @@ refusal-number Locked = omega arith
 refusal-number NotGranted = omega arith
 refusal-number NotEntry = omega arith
 refusal-number NoRun = omega arith
+refusal-number NotPermitted = omega arith
+refusal-number LimitPassed = omega arith
 refusal-number HasPassword = omega arith
 refusal-number Full = omega arith
 refusal-number Missing = omega arith
+
+-- up to 9 a refusal's place is its number
+pub place-number : (r : Refusal) → min 10 (refusalPlace r) ≡ min 10 (refusalNumber r)
+place-number StoreLength = refl
+place-number Unsound = refl
+place-number NoDomain = refl
+place-number OutOfRange = refl
+place-number Locked = refl
+place-number NotGranted = refl
+place-number NotEntry = refl
+place-number NoRun = refl
+place-number NotPermitted = refl
+place-number LimitPassed = refl
+place-number HasPassword = refl
+place-number Full = refl
+place-number Missing = refl
 
 -- what is answered where no check fails, and where one does
 pub record Answering (answer : Option Refusal → Answer) : Type 0 where
@@ -195,9 +214,9 @@ module _ (w : World) (d : ℕ) (c : Call) where
   unfolding stepBy
   done-hold = Iff·trans (answers-done answering (firstFailing (allChecks w d c))) (none-fails (allChecks w d c))
 
-  -- THE LOWEST NUMBER ANSWERS: no check that fails has a lower one
-  pub lowest-answers : (why : Refusal) → step w d c .outcome .answer ≡ Refused why → FailFrom (refusalNumber why) (allChecks w d c)
-  lowest-answers why h = first-lowest 2 (allChecks w d c) why (checks-ascend w d c (view judged w d c)) (step-refused why .0 h)
+  -- THE EARLIEST PLACE ANSWERS: no check that fails has an earlier one
+  pub earliest-answers : (why : Refusal) → step w d c .outcome .answer ≡ Refused why → FailFrom (refusalPlace why) (allChecks w d c)
+  earliest-answers why h = first-earliest 2 (allChecks w d c) why (checks-ascend w d c (view judged w d c)) (step-refused why .0 h)
 
   -- a refused call gives the world back that came in
   pub refused-is : (why : Refusal) → step w d c .outcome .answer ≡ Refused why → step w d c ≡ refused w why

@@ -9,8 +9,8 @@ use Rattle.state.specs.declared.Frame.{Frame}
 use Rattle.judge.specs.Judged.{judged}
 use Rattle.judge.specs.declared.Judgement.{Judgement}
 use Rattle.judge.specs.declared.Judgement.the-variants.{Refused}
-use Rattle.calls.specs.View.{Want, nothing, rights, World, View, Found, firstFailing, foundBy, search, passes}
-use Rattle.calls.specs.Rules.{wanted, presented, late}
+use Rattle.calls.specs.View.{Want, nothing, rights, World, View, Found, firstFailing, foundBy, search, passes, permitted, withinLimit}
+use Rattle.calls.specs.Rules.{wanted, presented, charged, late}
 use Rattle.calls.specs.Step.{Result, concluded}
 use Rattle.calls.specs.declared.Call.{Call}
 use Rattle.calls.specs.declared.Refusal.{Refusal}
@@ -31,7 +31,14 @@ search-given w f (rights target r) = refl
 -- the view of the call, and what it comes to
 abbrev pub sees : World → ℕ → Call → Judgement → View
 sees w d c j =
-    record { domain = domainAt (w .state) d; estate = estateAt (w .state .table) d; found = given w (wanted c) j; live = passes (w .state .table) (presented c) }
+    record {
+      domain = domainAt (w .state) d;
+      estate = estateAt (w .state .table) d;
+      found = given w (wanted c) j;
+      live = passes (w .state .table) (presented c);
+      permits = permitted (w .state .accounts) d (charged c);
+      fits = withinLimit (w .state .table) (w .state .accounts) d (charged c);
+    }
 
 abbrev pub comes : World → ℕ → Call → Judgement → Result
 comes w d c j = concluded (firstFailing (late d c (sees w d c j))) w d c (sees w d c j)

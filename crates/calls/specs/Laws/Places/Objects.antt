@@ -31,13 +31,9 @@ use Rattle.calls.specs.Arguments.{runFree}
 use Rattle.calls.specs.Rules.{inRange}
 use Rattle.calls.specs.Laws.Agree.{run-same}
 use Rattle.calls.specs.declared.Call.the-variants.{OnObject}
-use Rattle.calls.specs.declared.ObjectCall.the-variants.{Create, AddPassword}
+use Rattle.calls.specs.declared.ObjectCall.the-variants.{AddPassword}
 
--- CR is asked for some page, and AP for a password that is not 0 and a legal mode
-pub create-pages : (p n k : ℕ) → inRange (OnObject (Create p n k)) ≡ true → 0 < n
-unfolding inRange
-create-pages p n k r = ltb-true 0 n (and-right (ltb p 128) _ (and-left (ltb p 128 && ltb 0 n) _ (and-left _ _ r)))
-
+-- AP is asked for a password that is not 0 and a legal mode
 pub add-word : (b k m : ℕ) → inRange (OnObject (AddPassword b k m)) ≡ true → 0 < k
 unfolding inRange
 add-word b k m r = not-zero k (not-true _ (and-right (ltb b 128) _ (and-left _ _ r)))
@@ -47,9 +43,9 @@ unfolding inRange
 add-legal b k m r = and-right (ltb b 128 && not (eqb k 0)) _ r
 
 -- a new object in the caller's estate has its base there
-pub new-home : (p n k d : ℕ) → 0 < n → liesIn (newObject p n k) d ≡ true → p / 32 ≡ d
+pub new-home : (p n k a d : ℕ) → 0 < n → liesIn (newObject p n k a) d ≡ true → p / 32 ≡ d
 unfolding liesIn newObject
-new-home p n k d some lies =
+new-home p n k a d some lies =
     let from : 32 * d ≤ p = leb-true _ _ (and-left _ _ lies) in
     let to : p + n ≤ 32 * d + 32 = leb-true _ _ (and-right (leb (32 * d) p) _ lies) in
     omega arith
@@ -96,13 +92,13 @@ module _ {s s′ : State} (both : Twins s s′) where
     run-free o = run-same d (estateAt t d) (estateAt t′ d) alike o
 
     -- its new object, at the first free place
-    pub created-same : (p n k : ℕ) → 0 < n → liesIn (newObject p n k) d ≡ true → runFree (estateAt t d) (newObject p n k) ≡ true
+    pub created-same : (p n k a : ℕ) → 0 < n → liesIn (newObject p n k a) d ≡ true → runFree (estateAt t d) (newObject p n k a) ≡ true
         → ltb (freePlace (estateAt t d)) 8 ≡ true
-        → SameObjects (putObject t d (freePlace (estateAt t d)) (newObject p n k)) (putObject t′ d (freePlace (estateAt t′ d)) (newObject p n k))
+        → SameObjects (putObject t d (freePlace (estateAt t d)) (newObject p n k a)) (putObject t′ d (freePlace (estateAt t′ d)) (newObject p n k a))
     unfolding newObject
-    created-same p n k some lies clear room =
-        let o = newObject p n k in
-        any-place s s′ d (freePlace (estateAt t d)) (freePlace (estateAt t′ d)) o (both .well) (both .well′) (both .same) l (new-home p n k d some lies) some
+    created-same p n k a some lies clear room =
+        let o = newObject p n k a in
+        any-place s s′ d (freePlace (estateAt t d)) (freePlace (estateAt t′ d)) o (both .well) (both .well′) (both .same) l (new-home p n k a d some lies) some
         (new-first t d o clear room) (new-first t′ d o (sym (run-free o) ∙ clear) (sym place-free ∙ room))
 
   -- DL, AP, DP and RG, on an object that stands
