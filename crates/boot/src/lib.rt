@@ -1,11 +1,16 @@
 // BT: the state and the store that a boot leaves.
+mod plan;
+
+use crate::plan::plan_ok;
 use calls::Answer;
+use calls::BOOT_NUMBERS;
 use calls::Caller;
 use calls::Outcome;
 use calls::Refusal;
 use calls::caller_of;
 use calls::replies::answered;
 use calls::words::zero_words;
+use state::Accounts;
 use state::Capability;
 use state::Domain;
 use state::Estate;
@@ -16,21 +21,23 @@ use state::estates::empty_state;
 use state::frames::only_list;
 use state::objects::free_object;
 use state::objects::new_object;
+ghost use mathlib.Core.Bool.{true};
 ghost use mathlib.Core.Path.{_≡_};
 ghost use Prim.Native.Nat.{_<_};
 ghost use lib.ListN.{length};
-ghost use Rattle.calls.specs.Boot.{homeEstate, homeDomain, bootState, homePair, bootWords, homesOk, bootedBy, boot};
+ghost use Rattle.calls.specs.Boot.{accountOf, homeEstate, homeDomain, bootAccounts, bootState, homePair, bootWords, planOk, bootedBy, boot};
 ghost use Rattle.calls.specs.Step.{result};
 
-// The estate of domain d after a boot: its first page, with the home password.
-fn home_estate(homes: [u64; 4], d: usize) -> Estate
-    requires { ⌜ d < 4 ⌝ }
-    ensures { λ r. ⌜ r ≡ homeEstate homes d ⌝ }
+// The estate of domain d after a boot: its first page, with the home password, on the home account.
+fn home_estate(plan: [u64; BOOT_NUMBERS], d: usize) -> Estate
+    requires { ⌜ (d < 4) × (accountOf plan d < 4) ⌝ }
+    ensures { λ r. ⌜ r ≡ homeEstate plan d ⌝ }
 {
     let none = free_object();
+    let account = plan[8 + 2 * d] as u8;
     Estate {
         objects: [
-            new_object(32 * d as u8, 1, homes[d]),
+            new_object(32 * d as u8, 1, plan[d], account),
             none,
             none,
             none,
@@ -43,9 +50,9 @@ fn home_estate(homes: [u64; 4], d: usize) -> Estate
 }
 
 // Domain d after a boot: slot 0 names its home object.
-fn home_domain(homes: [u64; 4], d: usize) -> Domain
+fn home_domain(plan: [u64; BOOT_NUMBERS], d: usize) -> Domain
     requires { ⌜ d < 4 ⌝ }
-    ensures { λ r. ⌜ r ≡ homeDomain homes d ⌝ }
+    ensures { λ r. ⌜ r ≡ homeDomain plan d ⌝ }
 {
     let none = Frame {
         slots: [Capability {
@@ -59,81 +66,97 @@ fn home_domain(homes: [u64; 4], d: usize) -> Domain
     Domain {
         active: only_list(Capability {
             page: 32 * d as u8,
-            password: homes[d],
+            password: plan[d],
         }),
         saved: [none; 4],
         depth: 0,
     }
 }
 
-fn boot_state(homes: [u64; 4]) -> State
-    ensures { λ r. ⌜ r ≡ bootState homes ⌝ }
+// The limits and sets that a boot gives.
+fn boot_accounts(plan: [u64; BOOT_NUMBERS]) -> Accounts
+    requires { ⌜ planOk plan ≡ true ⌝ }
+    ensures { λ r. ⌜ r ≡ bootAccounts plan ⌝ }
 {
-    State {
-        table: Table {
-            estates: [
-                home_estate(homes, 0),
-                home_estate(homes, 1),
-                home_estate(homes, 2),
-                home_estate(homes, 3),
-            ],
-        },
-        domains: [
-            home_domain(homes, 0),
-            home_domain(homes, 1),
-            home_domain(homes, 2),
-            home_domain(homes, 3),
+    Accounts {
+        limits: [
+            plan[4] as u8,
+            plan[5] as u8,
+            plan[6] as u8,
+            plan[7] as u8,
+        ],
+        sets: [
+            plan[9] as u8,
+            plan[11] as u8,
+            plan[13] as u8,
+            plan[15] as u8,
         ],
     }
 }
 
+fn boot_state(plan: [u64; BOOT_NUMBERS]) -> State
+    requires { ⌜ planOk plan ≡ true ⌝ }
+    ensures { λ r. ⌜ r ≡ bootState plan ⌝ }
+{
+    State {
+        table: Table {
+            estates: [
+                home_estate(plan, 0),
+                home_estate(plan, 1),
+                home_estate(plan, 2),
+                home_estate(plan, 3),
+            ],
+        },
+        domains: [
+            home_domain(plan, 0),
+            home_domain(plan, 1),
+            home_domain(plan, 2),
+            home_domain(plan, 3),
+        ],
+        accounts: boot_accounts(plan),
+    }
+}
+
 // The first pair of domain d's home object.
-fn home_pair(store: &mut [u64], homes: [u64; 4], d: usize)
+fn home_pair(store: &mut [u64], plan: [u64; BOOT_NUMBERS], d: usize)
     requires { ⌜ (d < 4) × (length (now store) ≡ 8192) ⌝ }
-    ensures { λ _. ⌜ now (store .exit) ≡ homePair homes d (now (store .entry)) ⌝ }
+    ensures { λ _. ⌜ now (store .exit) ≡ homePair plan d (now (store .entry)) ⌝ }
 {
     store[2048 * d] = 32 * d as u64 * 256 + 15;
-    store[2048 * d + 1] = homes[d];
+    store[2048 * d + 1] = plan[d];
 }
 
 // The words after a boot.
-fn boot_words(store: &mut [u64], homes: [u64; 4])
+fn boot_words(store: &mut [u64], plan: [u64; BOOT_NUMBERS])
     requires { ⌜ length (now store) ≡ 8192 ⌝ }
-    ensures { λ _. ⌜ now (store .exit) ≡ bootWords homes ⌝ }
+    ensures { λ _. ⌜ now (store .exit) ≡ bootWords plan ⌝ }
 {
     zero_words(store, 0, 8192);
-    home_pair(store, homes, 0);
-    home_pair(store, homes, 1);
-    home_pair(store, homes, 2);
-    home_pair(store, homes, 3);
-}
-
-// Whether no home password is 0.
-fn homes_ok(homes: [u64; 4]) -> bool
-    ensures { λ r. ⌜ r ≡ homesOk homes ⌝ }
-{
-    (homes[0] != 0) & (homes[1] != 0) & (homes[2] != 0) & (homes[3] != 0)
+    home_pair(store, plan, 0);
+    home_pair(store, plan, 1);
+    home_pair(store, plan, 2);
+    home_pair(store, plan, 3);
 }
 
 // BT behind checks 2 and 4.
-fn booted(store: &mut [u64], homes: [u64; 4]) -> Outcome
+fn booted(store: &mut [u64], plan: [u64; BOOT_NUMBERS]) -> Outcome
     requires { ⌜ length (now store) ≡ 8192 ⌝ }
-    ensures { λ r. ⌜ result r (now (store .exit)) ≡ bootedBy (now (store .entry)) homes ⌝ }
+    ensures { λ r. ⌜ result r (now (store .exit)) ≡ bootedBy (now (store .entry)) plan ⌝ }
 {
-    if !homes_ok(homes) {
+    if !plan_ok(plan) {
         return answered(empty_state(), Answer::Refused(Refusal::OutOfRange));
     }
-    boot_words(store, homes);
-    answered(boot_state(homes), Answer::Done(0))
+    boot_words(store, plan);
+    answered(boot_state(plan), Answer::Done(0))
 }
 
-// BT by a domain, with the home passwords of the four domains.
-pub fn boot(store: &mut [u64], d: u64, homes: [u64; 4]) -> Outcome
-    ensures { λ r. ⌜ result r (now (store .exit)) ≡ boot (now (store .entry)) d homes ⌝ }
+// BT by a domain, with its numbers: home passwords, limits, home accounts and sets.
+pub fn boot(store: &mut [u64], d: u64, plan: [u64; BOOT_NUMBERS]) -> Outcome
+    ensures { λ r. ⌜ result r (now (store .exit)) ≡ boot (now (store .entry)) d plan ⌝ }
 {
     let caller = caller_of(store.len(), d);
     match caller {
-        Caller::Known(k) => return booted(store, homes),
+        Caller::Known(k) => return booted(store, plan),
         Caller::Refused(why) => return answered(empty_state(), Answer::Refused(why)),
     }
 }

@@ -78,6 +78,10 @@ pub struct Entries {
     pub fourth: u64,
 }
 
+// How many numbers a boot is given: the home passwords of the domains, the limits of the accounts, then for each domain its home account and
+// its set.
+pub const BOOT_NUMBERS: usize = 16;
+
 // Why a call is refused, in checking order.
 pub enum Refusal {
     StoreLength,
