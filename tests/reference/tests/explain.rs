@@ -19,7 +19,7 @@ fn rows(input: &[u8]) -> String {
 fn a_row_for_a_line() {
     let input = b"\
 0,GT
-0,BT,11,12,13,14
+0,BT,11,12,13,14,128,128,128,128,0,15,0,15,0,15,0,15
 0,RD,0
 0,EX,0
 0,LK,0,3
@@ -53,7 +53,7 @@ fn a_row_for_a_line() {
 
 #[test]
 fn calls_of_procedures() {
-    let input = b"0,BT,1,2,3,4\n0,RG,0,5,0,1,9\n0,WR,2,0\n0,WR,3,5\n0,CA,8,1\n0,CA,9,1\n0,GT\n";
+    let input = b"0,BT,1,2,3,4,128,128,128,128,0,15,0,15,0,15,0,15\n0,RG,0,5,0,1,9\n0,WR,2,0\n0,WR,3,5\n0,CA,8,1\n0,CA,9,1\n0,GT\n";
     let rows = rows(input);
     let last: Vec<&str> = rows.lines().skip(4).collect();
     assert_eq!(

@@ -15,15 +15,15 @@ mod whole_lock;
 
 pub use unreadable::unreadable;
 
-use crate::lines::HEADER;
+use crate::lines::{BOOT, HEADER};
 
 /// The paper's listing, to the byte.
 pub const LISTING: &str = "\
-0,BT,11,12,13,14
+0,BT,11,12,13,14,128,128,128,128,0,15,0,15,0,15,0,15
 0,RD,0
 1,RD,2048
 0,RD,2048
-0,CR,1,1,21
+0,CR,1,1,21,0
 0,RD,64
 0,WR,2,256
 0,WR,3,21
@@ -48,11 +48,9 @@ line,answer,value
 11,0,1,0,0,0
 ";
 
-const BOOT: &str = "0,BT,11,12,13,14";
-
 /// Domain 1 registers an entry in its page 33; domain 0 gets the password.
 const SERVICE: [(&str, &str); 6] = [
-    ("1,CR,33,1,31", "0,0"),
+    ("1,CR,33,1,31,0", "0,0"),
     ("1,WR,2050,8448", "0,0"),
     ("1,WR,2051,31", "0,0"),
     ("1,RG,33,32,32,12,2112", "0,0"),

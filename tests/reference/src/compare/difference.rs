@@ -35,7 +35,7 @@ pub fn in_form(input: &[u8], output: &[u8]) -> bool {
         fields.is_some_and(|f| {
             f.len() > 2
                 && f[0] == number as u64
-                && matches!(f[1], 0 | 1 | 4..=12)
+                && matches!(f[1], 0 | 1 | 4..=12 | 14 | 15)
                 && (f[1] == 0 || f[2..] == [0])
         })
     };

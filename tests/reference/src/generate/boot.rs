@@ -8,9 +8,8 @@ impl Generator {
     pub(super) fn boot(&mut self) -> Vec<u8> {
         if self.random.percent(20) {
             let mut line = self.boot_line();
-            if self.random.percent(70) {
-                let at = self.random.index(DOMAINS);
-                line.args[at] = 0;
+            if self.random.percent(80) {
+                self.spoil_boot(&mut line);
             } else {
                 line.domain = self.random.pick(&[4, 5, TOP]);
             }
@@ -36,6 +35,7 @@ impl Generator {
         if self.random.percent(10) {
             homes = vec![homes[0]; 4];
         }
+        homes.extend(self.boot_accounts());
         Line::new(domain, "BT", &homes)
     }
 

@@ -5,6 +5,8 @@ mod fields;
 mod judging;
 mod ranges;
 
+use crate::lines::BOOT;
+
 const TOP: u64 = u64::MAX;
 
 /// Whole ranges, one after another.
@@ -35,13 +37,13 @@ impl Sweep {
     }
 
     fn boot(&mut self) {
-        self.add("0,BT,11,12,13,14");
+        self.add(BOOT);
     }
 
     /// A boot, and an object of two pages that domain 0 owns.
     fn stage(&mut self) {
         self.boot();
-        self.add("0,CR,1,2,21");
+        self.add("0,CR,1,2,21,0");
         self.add("0,WR,2,256");
         self.add("0,WR,3,21");
     }
