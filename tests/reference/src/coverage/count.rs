@@ -1,6 +1,7 @@
 //! Counters of the answers, situations and bounds that inputs come to.
 
 use super::bounds::bounds;
+use super::charges::Charges;
 use super::restored::Restored;
 use super::seen::Seen;
 use super::situations::situations;
@@ -55,6 +56,7 @@ impl Coverage {
         let mut before = Monitor::new();
         let mut after = Monitor::new();
         let mut restored = Restored::default();
+        let mut charges = Charges::default();
         let mut booted = false;
         let mut line = Vec::new();
         while let Some(whole) =
@@ -76,11 +78,13 @@ impl Coverage {
                 before: &before,
                 after: &after,
                 restored: &restored,
+                charges: &charges,
                 booted,
                 domain,
                 call: &call,
                 outcome: &outcome,
             });
+            charges.note(&before, domain, &call, answer == 0);
             if answer == 0 {
                 restored.note(&before, &after, &call);
                 booted |= letters == "BT";
