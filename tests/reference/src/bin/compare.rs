@@ -1,8 +1,8 @@
-//! `compare PROGRAM [SEEDS] [LINES] [FIRST]`: another program against this
-//! one. Status 1 for a difference, and where the generated lines did not reach
-//! all that they should.
+//! `compare [--accounts] PROGRAM [SEEDS] [LINES] [FIRST]`: another call program,
+//! or another program `accounts`, against this one. Status 1 for a difference,
+//! and where the generated lines did not reach all that they should.
 
-use refmonitor::compare::{self, Compared, Plan, Ran};
+use refmonitor::compare::{self, Compared, Plan, Ran, ANSWERS, FIGURES};
 use std::process::ExitCode;
 use std::time::Duration;
 
@@ -10,7 +10,14 @@ use std::time::Duration;
 const SHRINKING: Duration = Duration::from_secs(40);
 
 fn main() -> ExitCode {
-    let args: Vec<String> = std::env::args().skip(1).collect();
+    let mut args: Vec<String> = std::env::args().skip(1).collect();
+    let reference = match args.first().map(String::as_str) {
+        Some("--accounts") => {
+            args.remove(0);
+            FIGURES
+        }
+        _ => ANSWERS,
+    };
     let numbers: Option<Vec<u64>> = args.iter().skip(1).map(|a| a.parse().ok()).collect();
     let number = |i: usize, default| match &numbers {
         Some(numbers) => numbers.get(i).copied().unwrap_or(default),
@@ -23,7 +30,7 @@ fn main() -> ExitCode {
     };
     let all = plan.seeds > 0 && plan.lines > 0 && plan.first > 0 && args.len() < 5;
     let (Some(program), true) = (args.first(), all) else {
-        eprintln!("usage: compare PROGRAM [SEEDS] [LINES] [FIRST]");
+        eprintln!("usage: compare [--accounts] PROGRAM [SEEDS] [LINES] [FIRST]");
         return ExitCode::from(2);
     };
     let mut run = |input: &[u8], feed| {
@@ -33,7 +40,7 @@ fn main() -> ExitCode {
         })
     };
     let mut tell = |what: &str| println!("{what}");
-    let compared = match compare::search(&mut run, plan, &mut tell) {
+    let compared = match compare::search(reference, &mut run, plan, &mut tell) {
         Ok(compared) => compared,
         Err(found) => {
             println!("looking for the shortest run that shows it");
