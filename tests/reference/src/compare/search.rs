@@ -195,6 +195,12 @@ pub fn search(
         lines: 0,
         found: Vec::new(),
     };
+    if reference.beginnings > 0 {
+        let times = reference.beginnings;
+        (search.tell)(&format!(
+            "each input, if not in pieces, is also cut short {times} times"
+        ));
+    }
     search.written_cases();
     search.ranges();
     let coverage = search.generated(plan);

@@ -1,5 +1,6 @@
 //! Sweeps over the ranges of arguments, letters and numbers.
 
+mod accounts;
 mod bounds;
 mod fields;
 mod judging;
@@ -22,6 +23,9 @@ pub fn sweep() -> Vec<u8> {
     sweep.addresses();
     sweep.slots();
     sweep.choices();
+    sweep.limits();
+    sweep.sets();
+    sweep.charges();
     sweep.letters();
     sweep.numbers();
     sweep.0.into_bytes()
