@@ -24,7 +24,12 @@ impl Generator {
         self.booted = true;
         let length = self.random.pick(&[40, 200, 600, 1500, 4000]);
         self.left = 20 + self.random.below(length);
-        let bytes = self.boot_line().bytes();
+        let line = if self.random.percent(5) {
+            self.one_account_boot()
+        } else {
+            self.boot_line()
+        };
+        let bytes = line.bytes();
         self.play(&bytes);
         bytes
     }

@@ -67,6 +67,24 @@ impl Generator {
         }
     }
 
+    /// A boot with every home on one account, and queued CRs that put all other
+    /// pages on it too, as far as its limit goes.
+    pub(super) fn one_account_boot(&mut self) -> Line {
+        let mut line = self.boot_line();
+        let account = self.random.below(4);
+        line.args[LIMITS + account as usize] = self.random.pick(&[127, 127, 128]);
+        let first = self.random.index(DOMAINS);
+        for d in (0..DOMAINS).map(|i| (first + i) % DOMAINS) {
+            line.args[home_at(d)] = account;
+            line.args[set_at(d)] |= 1 << account;
+            let (page, password) = (estate(d).start + 1, self.password());
+            self.push(d, "CR", &[page, 31, password, account]);
+            self.push(d, "CR", &[page, 30, password, account]);
+        }
+        self.left = self.left.min(100);
+        line
+    }
+
     /// Put a boot line out of range, by one of its arguments.
     pub(super) fn spoil_boot(&mut self, line: &mut Line) {
         let i = self.random.index(4);

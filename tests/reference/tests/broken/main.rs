@@ -1,5 +1,6 @@
 //! The comparison: silent on the reference itself, and loud on broken copies.
 
+mod figures;
 mod monitors;
 mod outputs;
 mod processes;

@@ -29,6 +29,15 @@ fn compare_as_a_process() {
     assert!(text.contains("generated, seeds 7 to 8: 2 inputs, 20 lines\n"));
     assert!(text.contains("never reached by the generated lines: CA with answer 11\n"));
 
+    // The program that prints the accounts.
+    let accounts = env!("CARGO_BIN_EXE_accounts");
+    let (status, text) = compare(&["--accounts", accounts]);
+    assert_eq!(status, Some(0), "{text}");
+    assert!(text.contains("cases, figures written out: "));
+    assert!(text.contains("generated, seeds 1 to 40: 40 inputs, 200000 lines\n"));
+    assert_eq!(compare(&["--accounts", reference]).0, Some(1));
+    assert_eq!(compare(&[accounts]).0, Some(1));
+
     // Another program altogether.
     let (status, text) = compare(&[env!("CARGO_BIN_EXE_workload")]);
     assert_eq!(status, Some(1));
@@ -37,6 +46,7 @@ fn compare_as_a_process() {
     assert_eq!(compare(&["no-such-program"]).0, Some(1));
     for bad in [
         &[][..],
+        &["--accounts"],
         &["x", "0"],
         &["x", "1", "y"],
         &["x", "1", "2", "3", "4"],

@@ -9,6 +9,12 @@ pub(super) const ACCOUNTS_CHARGED: &[Situation] = &[
     ("CR meets its limit by several pages", |s| {
         charge(s).is_some_and(|c| s.done() && c.sum == c.limit && c.pages > 1)
     }),
+    ("CR meets a limit of 128", |s| {
+        charge(s).is_some_and(|c| s.done() && c.sum == c.limit && c.limit == MAX_LIMIT)
+    }),
+    ("CR passes a limit of 127", |s| {
+        charge(s).is_some_and(|c| s.refused(Refusal::Limit) && c.limit == 127)
+    }),
     ("CR passes its limit by one", |s| {
         charge(s).is_some_and(|c| s.refused(Refusal::Limit) && c.sum == c.limit + 1)
     }),

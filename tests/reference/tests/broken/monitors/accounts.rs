@@ -42,7 +42,7 @@ pub(super) const ACCOUNTS_BROKEN: &[Broken] = &[
     ("the limit is that of the next account", |m, _, d, c| {
         with_limits(m, d, c, |m, a| m.limits[(a + 1) % 4])
     }),
-    ("a limit of 128 is none", |m, _, d, c| {
+    ("a limit of 127 is none", |m, _, d, c| {
         with_limits(m, d, c, |m, a| match m.limits[a] {
             127.. => 1000,
             limit => limit,
