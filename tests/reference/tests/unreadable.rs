@@ -1,6 +1,6 @@
 //! Every form of an unreadable line, and lines that are only just readable.
 
-use refmonitor::damage::{damage, register_line, FORMS};
+use refmonitor::damage::{boot_line, damage, register_line, FORMS};
 use refmonitor::generate::Line;
 use refmonitor::inputs;
 use refmonitor::lines::{number, read, run_bytes, BOOT, LETTERS};
@@ -61,6 +61,14 @@ fn two_hundred_bytes() {
         assert_eq!(line.len(), length);
         assert!(read(&line).is_some(), "{length}");
     }
+    for length in 36..=200 {
+        let line = boot_line(length);
+        assert_eq!(line.len(), length);
+        assert!(read(&line).is_some(), "{length}");
+    }
+    assert_eq!(answer(&boot_line(200)), "5,0");
+    assert_eq!(answer(&boot_line(201)), "1,0");
+    assert_eq!(answer(&boot_line(340)), "1,0");
     assert_eq!(answer(&register_line(200)), "5,0");
     assert_eq!(answer(&register_line(201)), "1,0");
     assert_eq!(answer(&register_line(202)), "1,0");

@@ -1,7 +1,7 @@
 //! Lines that cannot be read.
 
 use super::Case;
-use crate::damage::{damage, register_line, FORMS};
+use crate::damage::{boot_line, damage, register_line, FORMS};
 use crate::generate::Line;
 use crate::lines::{BOOT, LETTERS};
 use crate::random::Random;
@@ -107,6 +107,9 @@ fn by_hand() -> Case {
         case.line(&line, "1,0");
     }
     case.line(&register_line(200), "5,0");
+    for (length, answer) in [(199, "5,0"), (200, "5,0"), (201, "1,0"), (340, "1,0")] {
+        case.line(&boot_line(length), answer);
+    }
     case.line(b"0,GT", "0,1,0,0,0");
     case
 }

@@ -58,9 +58,9 @@ impl Generator {
             return self.random.pick(&[128, 128, 128, 128, 127, 100]);
         }
         match self.random.below(8) {
-            0 => least,
-            1 => least + 1,
-            2..=3 => least + self.random.below(8),
+            0..=1 => least,
+            2 => least + 1,
+            3 => least + self.random.below(8),
             4..=5 => least + self.random.below(20),
             6 => self.random.pick(&[16, 24, 32, 33, 40, 64]),
             _ => self.random.pick(&[127, 128]),
@@ -72,7 +72,7 @@ impl Generator {
     pub(super) fn one_account_boot(&mut self) -> Line {
         let mut line = self.boot_line();
         let account = self.random.below(4);
-        line.args[LIMITS + account as usize] = self.random.pick(&[127, 127, 128]);
+        line.args[LIMITS + account as usize] = self.random.pick(&[127, 128]);
         let first = self.random.index(DOMAINS);
         for d in (0..DOMAINS).map(|i| (first + i) % DOMAINS) {
             line.args[home_at(d)] = account;

@@ -105,6 +105,14 @@ pub(super) const ACCOUNTS_BROKEN: &[Broken] = &[
     ("the set of another domain", |m, _, d, c| {
         with_sets(m, d, c, |sets, d| sets[(d + 1) % 4])
     }),
+    ("inside a call another domain's set", |m, _, d, c| {
+        match m.domains.get(d as usize) {
+            Some(domain) if !domain.saved.is_empty() => {
+                with_sets(m, d, c, |sets, d| sets[(d + 1) % 4])
+            }
+            _ => m.call(d, c),
+        }
+    }),
     ("every object is on account 0", |m, _, d, c| {
         on_account(m, d, c, |_, _| 0)
     }),
