@@ -2,22 +2,25 @@
 //! or another program `accounts`, against this one. Status 1 for a difference,
 //! and where the generated lines did not reach all that they should.
 
-use refmonitor::compare::{self, Compared, Plan, Ran, ANSWERS, FIGURES};
+use refmonitor::compare::{self, Compared, Plan, Ran, Reference, ANSWERS, FIGURES};
 use std::process::ExitCode;
 use std::time::Duration;
 
 /// How long differing inputs are shortened, at most.
 const SHRINKING: Duration = Duration::from_secs(40);
 
+/// What the first word asks for, if it is an option.
+fn reference(args: &mut Vec<String>) -> Reference {
+    if args.first().is_some_and(|word| word == "--accounts") {
+        args.remove(0);
+        return FIGURES;
+    }
+    ANSWERS
+}
+
 fn main() -> ExitCode {
     let mut args: Vec<String> = std::env::args().skip(1).collect();
-    let reference = match args.first().map(String::as_str) {
-        Some("--accounts") => {
-            args.remove(0);
-            FIGURES
-        }
-        _ => ANSWERS,
-    };
+    let reference = reference(&mut args);
     let numbers: Option<Vec<u64>> = args.iter().skip(1).map(|a| a.parse().ok()).collect();
     let number = |i: usize, default| match &numbers {
         Some(numbers) => numbers.get(i).copied().unwrap_or(default),

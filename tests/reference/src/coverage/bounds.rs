@@ -37,8 +37,9 @@ pub const BOUNDS: [(&str, &[[u64; 4]]); 14] = [
     ("CA", &[ADDRESS, [0, 1, 2, TOP]]),
 ];
 
-/// More bounds: of the domain, and about the slot number of the whole lock.
-const MORE_BOUNDS: [(&str, usize, u64); 7] = [
+/// More bounds: of the domain, about the slot number of the whole lock, and of
+/// the limits.
+const MORE_BOUNDS: [(&str, usize, u64); 15] = [
     (NO_LETTERS, 0, 0),
     (NO_LETTERS, 0, 3),
     (NO_LETTERS, 0, 4),
@@ -46,6 +47,14 @@ const MORE_BOUNDS: [(&str, usize, u64); 7] = [
     ("LO", 0, WHOLE - 1),
     ("LO", 0, WHOLE),
     ("LO", 0, WHOLE + 1),
+    ("BT", 4, 127),
+    ("BT", 5, 127),
+    ("BT", 6, 127),
+    ("BT", 7, 127),
+    ("BT", 4, TOP),
+    ("BT", 5, TOP),
+    ("BT", 6, TOP),
+    ("BT", 7, TOP),
 ];
 
 /// Every bound as letters, the argument's number from 0, and its value.

@@ -80,7 +80,10 @@ impl Monitor {
     /// One call by one domain. A refused call changes nothing.
     pub fn call(&mut self, domain: u64, call: &Call) -> Outcome {
         need(domain < DOMAINS as u64, Refusal::Domain)?;
-        let d = domain as usize;
+        self.answer(domain as usize, call)
+    }
+
+    fn answer(&mut self, d: usize, call: &Call) -> Outcome {
         match *call {
             Call::Bt {
                 homes,

@@ -173,7 +173,7 @@ fn full(m: &Monitor, d: usize) -> Option<Refusal> {
 }
 
 fn is_home(object: &Object) -> bool {
-    object.base % ESTATE_PAGES == 0
+    object.base.is_multiple_of(ESTATE_PAGES)
 }
 
 /// The pages of such objects on the account.
