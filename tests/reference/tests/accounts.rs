@@ -5,6 +5,7 @@ use refmonitor::figures::{run_bytes, text};
 use refmonitor::inputs;
 use refmonitor::lines::calls;
 use refmonitor::monitor::*;
+use std::collections::BTreeSet;
 use std::fs;
 use std::path::Path;
 
@@ -78,6 +79,34 @@ fn limits_and_sets_stay() {
             }
         }
     }
+}
+
+/// The sweep charges an account to every limit, and passes every one by a page
+/// but that of 128, which is all there is.
+#[test]
+fn every_limit_is_met_and_passed() {
+    let (mut met, mut passed) = (BTreeSet::new(), BTreeSet::new());
+    let mut monitor = Monitor::new();
+    for (domain, call) in calls(&inputs::sweep()) {
+        let charged = monitor.figures();
+        let outcome = monitor.call(domain, &call);
+        let Call::Cr {
+            account: account @ 0..=3,
+            count,
+            ..
+        } = call
+        else {
+            continue;
+        };
+        let (charged, limit) = (charged[account as usize], monitor.limits[account as usize]);
+        match outcome {
+            Ok(_) if charged + count == limit => met.insert(limit),
+            Err(Refusal::Limit) if charged + count == limit + 1 => passed.insert(limit),
+            _ => continue,
+        };
+    }
+    assert!(met.into_iter().eq(1..=128));
+    assert!(passed.into_iter().eq(1..=127));
 }
 
 /// A state is sound with more charged than a limit, and with limits and sets of

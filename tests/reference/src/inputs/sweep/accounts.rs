@@ -3,26 +3,43 @@
 use super::{Sweep, TOP};
 
 impl Sweep {
-    /// Every limit, with the homes on its account: the account is charged up to
-    /// it and one page more, by four domains by turns.
+    /// Every limit, with the homes on its account: it is charged to the limit, and
+    /// each time one page more is tried first and behind it.
     pub(super) fn limits(&mut self) {
         for limit in (0..=130).chain([255, 256, 257, 1 << 32, TOP]) {
             for account in [0, 3] {
                 let mut limits = [1; 4];
                 limits[account] = limit;
                 self.boot_with(limits, [account as u64; 4], [1 << account; 4]);
+                self.charge_all(account, limit.saturating_sub(4).min(124));
             }
-            // Whole estates but for a page, the rest, then a page at a time.
-            let mut left = (limit % 129).saturating_sub(4);
-            for d in 0..4 {
-                let pages = left.min(30);
-                self.add(format!("{d},CR,{},{},5,3", 32 * d + 1, pages + 1));
-                self.add(format!("{d},CR,{},{pages},5,3", 32 * d + 1));
-                left -= pages;
+        }
+    }
+
+    /// Limits below four, with the homes on another account.
+    pub(super) fn small_limits(&mut self) {
+        for limit in 1..=4 {
+            self.boot_with([4, 1, limit, 1], [0; 4], [5; 4]);
+            self.add(format!("0,CR,1,{},5,2", limit + 1));
+            for d in 0..=limit {
+                self.add(format!("{},CR,{},1,5,2", d % 4, d % 4 * 32 + 1 + d / 4));
             }
-            for d in 0..4 {
-                self.add(format!("{d},CR,{},1,5,3", 32 * d + 31));
+        }
+    }
+
+    /// So many pages by four domains by turns: each estate but for a page, then
+    /// the last page of each.
+    fn charge_all(&mut self, account: usize, mut left: u64) {
+        for d in 0..4 {
+            let (page, pages) = (32 * d + 1, left.min(30));
+            left -= pages;
+            if left == 0 {
+                self.add(format!("{d},CR,{page},{},5,{account}", pages + 1));
             }
+            self.add(format!("{d},CR,{page},{pages},5,{account}"));
+        }
+        for d in 0..4 {
+            self.add(format!("{d},CR,{},1,5,{account}", 32 * d + 31));
         }
     }
 

@@ -24,6 +24,7 @@ pub fn sweep() -> Vec<u8> {
     sweep.slots();
     sweep.choices();
     sweep.limits();
+    sweep.small_limits();
     sweep.sets();
     sweep.charges();
     sweep.letters();
