@@ -9,11 +9,12 @@ use lib.Dec.{leb, ltb, eqb}
 use lib.ListN.{length, getD, take, drop, replicate, length-append, length-take, length-replicate, List·getD-append}
 use lib.Seq.{getD-set-other, getD-take, getD-drop, getD-append-add}
 use borrow.Author.Tests.{leb-true, leb-false, ltb-true, lt-leb}
+use Rattle.bounded.specs.Bools.{and-left}
 use Rattle.soundness.specs.Laws.Tests.{all4}
 use Rattle.judge.specs.Judged.{judged}
 use Rattle.calls.specs.View.{World, View}
 use Rattle.calls.specs.Changes.{zeroed, applyAll}
-use Rattle.calls.specs.Rule.{isPage}
+use Rattle.calls.specs.Rule.{isPage, isAccount}
 use Rattle.calls.specs.Rules.{rule, inRange, changes, view}
 use Rattle.calls.specs.Step.{step}
 use Rattle.calls.specs.Laws.Passed.{step-cases}
