@@ -53,6 +53,7 @@ step-accounts w d c =
     ⊎-elim (λ r. rw (r .1)) (λ x. rw (x .1 .1) (all-accounts (changes d c (view judged w d c)) w)) (step-cases w d c)
 
 module _ (G : Group) where
+  -- an outsider with an estate and a set; a number above 3 has neither
   abbrev Outsider : ℕ → Type 0
   Outsider d = (member G d ≡ false) × (d < 4)
 
@@ -100,6 +101,7 @@ module _ (G : Group) where
     abbrev x : Accounts
     x = w .state .accounts
 
+    -- what the caller's search by a base finds
     abbrev found : ℕ → ℕ → Option Found
     found b r = search judged w (domainAt (w .state) d .active) (rights (Base b) r)
 

@@ -88,11 +88,11 @@ Along G w (e ∷ es) = StatePremise G w × (CallPremise G w e × Along G (worldO
 abbrev pub Premises : Group → Run → Type 0
 Premises G r = Along G (startOf r) (r .events)
 
--- T-05: no account is in the set of a member and in the set of an outsider, of the sets that a boot gave; a number above 3 was given none
+-- document 02, T-05: by the sets that a boot gave, no account may be charged by a member and by an outsider; a number above 3 was given no set
 abbrev pub AccountsApart : Group → (ℕ → ℕ) → Type 0
 AccountsApart G sets = (d e a : ℕ) → member G d ≡ true → member G e ≡ false → e < 4 → inSet (sets d) a ≡ true → inSet (sets e) a ≡ false
 
--- T-05: two boots gave a domain the same home account and the same set, and the accounts in the set the same limits
+-- document 02, T-05: two boots gave a domain the same home account and the same set, and the accounts in the set the same limits
 pub record SameAccounts (plan plan′ : List ℕ) (d : ℕ) : Type 0 where
   pub home : accountOf plan d ≡ accountOf plan′ d
   pub set : setOf plan d ≡ setOf plan′ d
