@@ -28,7 +28,8 @@ use Rattle.calls.specs.Rules.{view, late, changes}
 use Rattle.calls.specs.Step.{step}
 use Rattle.calls.specs.Boot.{accountOf, setOf, homeEstate, bootAccounts, bootState, planOk}
 use Rattle.calls.specs.Laws.Plan.{plan-bounds}
-use Rattle.calls.specs.Laws.Passed.{Passes, step-cases}
+use Rattle.calls.specs.Laws.Passed.{Passes}
+use Rattle.calls.specs.Laws.Sound.{step-accounts}
 use Rattle.calls.specs.declared.Call.{Call}
 use Rattle.calls.specs.declared.Call.the-variants.{OnStore, OnObject, OnDomain}
 use Rattle.calls.specs.declared.Access.the-variants.{Read, Write, Execute, Lookup}
@@ -39,18 +40,6 @@ use Rattle.isolation.specs.Members.{member-below}
 use Rattle.isolation.specs.Premises.{AccountsApart}
 use Rattle.isolation.specs.Kept.{Each, put-each, free-each, becomes-each, Kept, AllKeep, step-keeps}
 use Rattle.isolation.specs.Accounts.{boot-set, insideAccount, outsider-outside}
-
--- no call changes the accounts
-all-accounts : (cs : List Change) (w : World) → applyAll cs w .state .accounts ≡ w .state .accounts
-all-accounts [] w = refl
-all-accounts (word a x ∷ cs) w = all-accounts cs (applyOne (word a x) w)
-all-accounts (zeros a n ∷ cs) w = all-accounts cs (applyOne (zeros a n) w)
-all-accounts (estate e x ∷ cs) w = all-accounts cs (applyOne (estate e x) w)
-all-accounts (domain d m ∷ cs) w = all-accounts cs (applyOne (domain d m) w)
-
-step-accounts : (w : World) (d : ℕ) (c : Call) → step w d c .outcome .state .accounts ≡ w .state .accounts
-step-accounts w d c =
-    ⊎-elim (λ r. rw (r .1)) (λ x. rw (x .1 .1) (all-accounts (changes d c (view judged w d c)) w)) (step-cases w d c)
 
 module _ (G : Group) where
   -- an outsider with an estate and a set; a number above 3 has neither

@@ -1,8 +1,7 @@
--- Each call moves the figure of an account by what it is granted to create and delete, and changes no limit and no set.
+-- Each call moves the figure of an account by what it is granted to create and delete, and takes none above its limit.
 use Prim.Native.Nat.{ℕ, _+_, _/_, _<_, _≤_}
-use mathlib.Core.Path.{_≡_, refl, ap, _∙_}
+use mathlib.Core.Path.{_≡_, refl}
 use mathlib.Core.Bool.{true, cond}
-use mathlib.Core.List.{List, [], _∷_}
 use mathlib.Core.Logic.{_⊎_, inl, inr}
 use native.Mathlib.Omega.{arith}
 use lib.Dec.{leb, ltb, eqb}
@@ -24,14 +23,14 @@ use Rattle.judge.specs.Judged.{judged}
 use Rattle.judge.specs.declared.Target.the-variants.{Base}
 use Rattle.calls.specs.Answers.{refusalNumber}
 use Rattle.calls.specs.View.{World, isSome, objectOf, estateFound}
-use Rattle.calls.specs.Changes.{Change, word, zeros, estate, domain, registration, applyOne, applyAll}
+use Rattle.calls.specs.Changes.{registration, applyAll}
 use Rattle.calls.specs.Rules.{late, changes, view}
-use Rattle.calls.specs.Step.{step}
 use Rattle.calls.specs.Runs.{Event, resultOf}
 use Rattle.calls.specs.Laws.Order.{refusal-number}
 use Rattle.calls.specs.Laws.Passed.{Passes, Refuses, Does, step-cases}
 use Rattle.calls.specs.Laws.Searched.{was-granted}
 use Rattle.calls.specs.Laws.Fit.{owned, found}
+use Rattle.calls.specs.Laws.Sound.{step-accounts}
 use Rattle.calls.specs.declared.Call.{Call}
 use Rattle.calls.specs.declared.Call.the-variants.{OnStore, OnObject, OnDomain}
 use Rattle.calls.specs.declared.Access.the-variants.{Read, Write, Execute, Lookup}
@@ -135,22 +134,6 @@ step-figure a w e h = go (step-cases w (e .domain) (e .call))
         ≡ pagesOf (w .state .table) a + cond (granted w e) (newPages a (e .call)) 0
     go (inl (why, r)) = rw (r, ne-eqb (refusalNumber why) 0 (λ z. omega (arith, refusal-number why))) refl
     go (inr (_, (p, r))) = rw r (done-figure a w (e .domain) h (e .call) p)
-
--- no change touches the accounts, and so no call does
-all-accounts : (cs : List Change) (w : World) → applyAll cs w .state .accounts ≡ w .state .accounts
-all-accounts [] w = refl
-all-accounts (word b v ∷ cs) w = all-accounts cs (applyOne (word b v) w)
-all-accounts (zeros b n ∷ cs) w = all-accounts cs (applyOne (zeros b n) w)
-all-accounts (estate e y ∷ cs) w = all-accounts cs (applyOne (estate e y) w)
-all-accounts (domain e y ∷ cs) w = all-accounts cs (applyOne (domain e y) w)
-
--- NO CALL CHANGES A LIMIT OR A SET
-pub step-accounts : (w : World) (d : ℕ) (c : Call) → step w d c .outcome .state .accounts ≡ w .state .accounts
-step-accounts w d c = go (step-cases w d c)
-  where
-    go : Refuses w (step w d c) ⊎ ((sound (w .state) ≡ true) × Does w d c (step w d c)) → step w d c .outcome .state .accounts ≡ w .state .accounts
-    go (inl (why, e)) = rw e refl
-    go (inr (_, (p, e))) = rw e (all-accounts (changes d c (view judged w d c)) w)
 
 -- a call that passes creates no more than the limit leaves
 passes-limit : (a : ℕ) (w : World) (d : ℕ) (c : Call) → Passes w d c → pagesOf (w .state .table) a ≤ limitAt (w .state .accounts) a
