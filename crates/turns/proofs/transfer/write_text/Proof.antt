@@ -2,8 +2,8 @@ use Prim.Native.Nat.{_≤_}
 use native.Mathlib.Omega.{arith}
 use lib.ListN.{length, length-take, length-drop}
 use borrow.Author.Needs.{needs}
-use Rattle.monitor.proofs.transfer.write_text.Statement.{statement}
-use Rattle.monitor.proofs.transfer.write_text.Tie as tie
+use Rattle.turns.proofs.transfer.write_text.Statement.{statement}
+use Rattle.turns.proofs.transfer.write_text.Tie as tie
 
 pub write-text-spec : {M : Type 1} → statement M
 write-text-spec =

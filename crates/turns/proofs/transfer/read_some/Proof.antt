@@ -2,8 +2,8 @@ use mathlib.Core.Path.{_≡_, refl}
 use native.Mathlib.Omega.{arith}
 use lib.ListN.{length}
 use borrow.Author.Needs.{needs}
-use Rattle.monitor.proofs.transfer.read_some.Statement.{statement}
-use Rattle.monitor.proofs.transfer.read_some.Tie as tie
+use Rattle.turns.proofs.transfer.read_some.Statement.{statement}
+use Rattle.turns.proofs.transfer.read_some.Tie as tie
 
 pub read-some-spec : {M : Type 1} → statement M
 read-some-spec =

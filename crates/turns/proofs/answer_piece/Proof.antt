@@ -1,6 +1,6 @@
 use Prim.Native.Nat.{_-_, _<_, _≤_}
-use mathlib.Core.Path.{_≡_, refl, sym}
-use mathlib.Core.Bool.{true≢false}
+use mathlib.Core.Path.{_≡_, refl, sym, ap, _∙_}
+use mathlib.Core.Bool.{not, true≢false}
 use native.Mathlib.Omega.{arith}
 use lib.ListN.{length, take, drop, length-take, length-drop}
 use lib.Seq.{take-all}
@@ -8,19 +8,19 @@ use Rattle.stream.specs.Feed.{Leads}
 use Rattle.stream.specs.Room.{feed-moves}
 use Rattle.stream.specs.Reached.{piece-leads}
 use borrow.Author.Needs.{needs}
-use Rattle.monitor.proofs.answer_piece.Statement.{statement}
-use Rattle.monitor.proofs.answer_piece.Tie as tie
+use Rattle.turns.proofs.answer_piece.Statement.{statement}
+use Rattle.turns.proofs.answer_piece.Tie as tie
 
 pub answer-piece-spec : {M : Type 1} → statement M
 answer-piece-spec =
     tie.close
     (tie.spec
-    (λ store₀ piece out₀ g₀ from₀ store out g from.
+    (λ store₀ piece out₀ writes g₀ from₀ store out g from.
     (length out ≡ 65536) × (length store ≡ length store₀) × (length out ≡ length out₀) × (from ≤ length piece) × Leads g₀ store₀ (take from piece) g store)
-    (λ store₀ piece out₀ g₀ from₀ store out g from. length piece - from)
+    (λ store₀ piece out₀ writes g₀ from₀ store out g from. length piece - from)
     (λ c. (c .before .before .before .pre .1, refl, refl, omega arith, refl))
     (λ c. search needs) (λ c. search needs) (λ c. search needs) (λ c κs. search needs) (λ c. search needs) (λ c. simp length-take (omega arith)) (λ c κs. search needs) (λ c. search needs) (λ c. search needs)
-    (λ c e. absurd (true≢false (sym e)))
+    (λ c. ((λ e. absurd (true≢false (sym e))), (λ e. absurd (true≢false (sym (c .if1 .taken) ∙ ap not (c .before .hand-over .ensures e))))))
     (λ c.
     let few = simp (length-take, length-drop) at (c .before .before .before .before .before .before .before .before .feed-piece .ensures .1 .0) in
     omega (arith, few))
@@ -38,8 +38,8 @@ answer-piece-spec =
     let few = simp (length-take, length-drop) at (d .ensures .1 .0) in
     (omega (arith, d .kept .1 .1 .1 .0), omega (arith, d .kept .1 .0), omega (arith, d .kept .1 .1 .1 .0), omega (arith, few), piece-leads (a .f) (a .store .now) (a .piece .now) (o .from) (o .g) (o .store) (o .out) (d .result) _ _ (o .inv .4) (d .ensures .0)))
     (λ c. search needs) (λ c. search needs)
-    (λ c e.
+    (λ c.
     let o = c .before .loop in
     let a = c .before .before .before .before .before .args in
     let all : take (o .from) (a .piece .now) ≡ a .piece .now = take-all (o .from) (a .piece .now) (omega arith) in
-    rw all at (o .inv .4)))
+    ((λ e. rw all at (o .inv .4)), (λ e. refl))))

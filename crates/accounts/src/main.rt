@@ -1,0 +1,26 @@
+// The pages on account: standard input to its end, and then for each account its pages to standard output.
+ghost use Prim.Native.Nat.{_≤_};
+ghost use lib.ListN.{length, take};
+ghost use Rattle.accounts.specs.Figured.{Figured};
+use figures::Text;
+use figures::figure_text;
+use turns::run;
+use turns::transfer::write_text;
+
+// Reads call lines to the end of the input, writes no answers, and gives the figures that they leave.
+fn end_text() -> Text
+    ensures { λ r. ⌜ Figured (take (r .count) (r .bytes)) × (r .count ≤ length (r .bytes)) ⌝ }
+{
+    let mut store = [0u64; 8192];
+    let end = run(&mut store, false);
+    let f = end.feed;
+    let s = f.state;
+    figure_text(s.table)
+}
+
+fn main() {
+    let text = end_text();
+    let bytes = text.bytes;
+    let count = text.count;
+    write_text(&bytes[..count]);
+}

@@ -1,0 +1,30 @@
+use mathlib.Core.Path.{_≡_, refl, _∙_, sym}
+use mathlib.Core.Bool.{true≢false}
+use native.Mathlib.Omega.{arith}
+use lib.ListN.{length, take}
+use Rattle.stream.specs.Feed.{Reached}
+use Rattle.stream.specs.Reached.{reached-none, reached-on}
+use borrow.Author.Needs.{needs}
+use Rattle.turns.proofs.run.Statement.{statement}
+use Rattle.turns.proofs.run.Tie as tie
+
+pub run-spec : {M : Type 1} → statement M
+run-spec =
+    tie.close
+    (tie.spec (λ store₀ writes piece₀ out₀ g₀ turns₀ store piece out g turns. (length piece ≡ 65536) × (length out ≡ 65536) × (length store ≡ length store₀) × Reached store₀ g store)
+    (λ store₀ writes piece₀ out₀ g₀ turns₀ store piece out g turns. turns)
+    (λ c κs. search needs)
+    (λ c. (refl, refl, refl, rw (c .start .ensures) (reached-none _)))
+    (λ c. search needs) (λ c κs. search needs) (λ c. search needs)
+    (λ c. ((λ e. c .before .before .before .before .before .loop .inv .3), (λ e. refl)))
+    (λ c. search needs) (λ c. search needs) (λ c. search needs) (λ c κs. search needs)
+    (λ c. search needs) (λ c. search needs)
+    (λ c.
+    let o = c .before .before .before .before .before .before .before .before .before .before .before .before .before .before .loop in
+    let r = c .before .before .before .before .before .before .before .before .before .before .before .read-some in
+    let d = c .before .before .before .before .before .answer-piece in
+    (omega (arith, r .kept .0, o .inv .0), omega (arith, d .kept .1 .1 .1 .0, o .inv .1), omega (arith, d .kept .1 .0, o .inv .2), reached-on _ (o .g) (o .store) (take (r .result) (r .last .0)) _ _ (o .inv .3) (d .ensures .0 (c .before .if2 .taken))))
+    (λ c. search needs)
+    (λ c. ((λ e. absurd (true≢false (sym e ∙ c .if2 .left))), (λ e. c .before .before .before .before .answer-piece .ensures .1 e)))
+    (λ c. search needs)
+    (λ c. ((λ e. c .before .loop .inv .3), (λ e. refl))))
