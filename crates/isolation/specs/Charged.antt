@@ -3,7 +3,7 @@
 use Prim.Native.Nat.{ℕ, suc, _/_, _<_}
 use mathlib.Core.Path.{_≡_, refl, sym, _∙_}
 use mathlib.Core.Bool.{true, false, true≢false}
-use mathlib.Core.List.{List, [], _∷_}
+use mathlib.Core.List.{List}
 use mathlib.Core.Logic.{⊎-elim}
 use mathlib.Core.Option.{Option}
 use native.Mathlib.Omega.{arith}
@@ -23,7 +23,7 @@ use Rattle.state.specs.declared.State.{State}
 use Rattle.judge.specs.Judged.{judged}
 use Rattle.judge.specs.declared.Target.the-variants.{Base}
 use Rattle.calls.specs.View.{rights, World, Found, search, objectOf, estateFound}
-use Rattle.calls.specs.Changes.{Change, word, zeros, estate, domain, registration, applyOne, applyAll}
+use Rattle.calls.specs.Changes.{estate, domain, registration}
 use Rattle.calls.specs.Rules.{view, late, changes}
 use Rattle.calls.specs.Step.{step}
 use Rattle.calls.specs.Boot.{accountOf, setOf, homeEstate, bootAccounts, bootState, planOk}

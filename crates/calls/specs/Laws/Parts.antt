@@ -7,7 +7,6 @@ use mathlib.Core.Option.{none, some}
 use lib.Seq.{set-getD}
 use Rattle.state.specs.Places.{noEstate, noDomain, noAccounts, estateAt, domainAt}
 use Rattle.state.specs.Update.{withEstate, withDomain}
-use Rattle.state.specs.declared.Estate.{Estate}
 use Rattle.state.specs.declared.Table.{Table}
 use Rattle.state.specs.declared.Frame.{Frame}
 use Rattle.state.specs.declared.Domain.{Domain}

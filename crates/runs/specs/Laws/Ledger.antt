@@ -1,5 +1,5 @@
 -- The figure of an account along any list of calls, from a boot: document 02, T-05.
-use Prim.Native.Nat.{ℕ, suc, _+_, _<_, _≤_}
+use Prim.Native.Nat.{ℕ, suc, _+_, _<_}
 use mathlib.Core.Path.{_≡_, refl}
 use mathlib.Core.Bool.{true, cond}
 use mathlib.Core.List.{List, [], _∷_}
@@ -7,8 +7,8 @@ use native.Mathlib.Omega.{arith}
 use lib.Dec.{eqb}
 use lib.ListN.{getD-replicate}
 use Rattle.bounded.specs.Fill.{tabulate-at}
-use Rattle.bounded.specs.Sum.{total, total-same, total-only}
-use Rattle.state.specs.Places.{noObject, noEstate, freeObject, objectAt, limitAt}
+use Rattle.bounded.specs.Sum.{total-same, total-only}
+use Rattle.state.specs.Places.{noObject, noEstate, freeObject, objectAt}
 use Rattle.state.specs.Update.{newObject}
 use Rattle.state.specs.Pages.{pagesOn, estatePages, pagesOf}
 use Rattle.state.specs.Laws.Pages.{none-on}

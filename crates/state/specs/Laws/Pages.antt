@@ -1,11 +1,10 @@
 -- How the figure of an account moves when an object is put at a place.
 use Prim.Native.Nat.{ℕ, _+_, _<_}
-use mathlib.Core.Path.{_≡_, refl}
-use native.Mathlib.Omega.{arith}
+use mathlib.Core.Path.{_≡_}
 use lib.Dec.{eqb}
 use lib.ListN.{length}
 use Rattle.bounded.specs.Bools.{cond-same}
-use Rattle.bounded.specs.Sum.{total, total-set}
+use Rattle.bounded.specs.Sum.{total-set}
 use Rattle.state.specs.Places.{noObject, noEstate, objectAt, estateAt}
 use Rattle.state.specs.Update.{withObject, withEstate}
 use Rattle.state.specs.Pages.{pagesOn, estatePages, pagesOf}
