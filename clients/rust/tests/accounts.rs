@@ -58,10 +58,12 @@ fn accounts_stand_in_the_image() {
     assert_eq!(image[3584..], [128, 3, 1, 1, 3, 2, 4, 8]);
 }
 
+type Change = fn(&mut Plan);
+
 /// Each number of a plan has its bounds; a refused boot leaves all as it was.
 #[test]
 fn a_plan_out_of_range() {
-    let wrong: [(&str, fn(&mut Plan)); 9] = [
+    let wrong: [(&str, Change); 9] = [
         ("no password", |p| p.homes[3] = 0),
         ("a limit of 0", |p| p.limits[0] = 0),
         ("a limit of 129", |p| p.limits[3] = 129),
