@@ -29,30 +29,39 @@ extern "C" {
 #define RESHQOBI_STORE_WORDS 8192
 #define RESHQOBI_VALUES 11
 
-/* The answer numbers. Of several refusals the first of this order is given:
- * STORE_LENGTH, UNREADABLE, then the others by rising number. */
+/* The answer numbers. The refusals stand in the order of their checks: of several the first is given. */
 #define RESHQOBI_DONE 0
-#define RESHQOBI_STORE_LENGTH 2  /* the store has not RESHQOBI_STORE_BYTES bytes */
-#define RESHQOBI_UNREADABLE 13   /* the values have not RESHQOBI_VALUES_BYTES bytes, or the image does not read */
-#define RESHQOBI_NO_DOMAIN 4     /* the domain is above 3 */
-#define RESHQOBI_OUT_OF_RANGE 5  /* an argument is out of its range */
-#define RESHQOBI_LOCKED 6        /* the slot is locked, or the whole lock is set */
-#define RESHQOBI_NOT_GRANTED 7   /* the rights are not granted, or the presented capability opens nothing */
-#define RESHQOBI_NOT_ENTRY 8     /* the address is no entry, or an entry lies outside the object */
-#define RESHQOBI_NO_RUN 9        /* the run leaves the caller's estate or meets an object */
-#define RESHQOBI_HAS_PASSWORD 10 /* the object has that password already */
-#define RESHQOBI_FULL 11         /* 8 objects, 4 passwords, a registration, 8 slots or 4 saved domains are there already */
-#define RESHQOBI_MISSING 12      /* no such slot or password, or nothing saved */
+#define RESHQOBI_STORE_LENGTH 2   /* the store has not RESHQOBI_STORE_BYTES bytes */
+#define RESHQOBI_UNREADABLE 13    /* the values have not RESHQOBI_VALUES_BYTES bytes, or the image does not read */
+#define RESHQOBI_NO_DOMAIN 4      /* the domain is above 3 */
+#define RESHQOBI_OUT_OF_RANGE 5   /* an argument is out of its range */
+#define RESHQOBI_LOCKED 6         /* the slot is locked, or the whole lock is set */
+#define RESHQOBI_NOT_GRANTED 7    /* the rights are not granted, or the presented capability opens nothing */
+#define RESHQOBI_NOT_ENTRY 8      /* the address is no entry, or an entry lies outside the object */
+#define RESHQOBI_NO_RUN 9         /* the run leaves the caller's estate or meets an object */
+#define RESHQOBI_NOT_PERMITTED 14 /* the account is not in the caller's set */
+#define RESHQOBI_LIMIT_PASSED 15  /* the account's pages would pass its limit */
+#define RESHQOBI_HAS_PASSWORD 10  /* the object has that password already */
+#define RESHQOBI_FULL 11          /* 8 objects, 4 passwords, a registration, 8 slots or 4 saved domains are there already */
+#define RESHQOBI_MISSING 12       /* no such slot or password, or nothing saved */
 
 /* The whole lock, as the slot of reshqobi_lo. */
 #define RESHQOBI_WHOLE_LOCK 255
+
+/* The last twelve arguments of reshqobi_bt with ample accounts: each limit 128, and each domain with home account 0 and set 15. */
+#define RESHQOBI_AMPLE 128, 128, 128, 128, 0, 15, 0, 15, 0, 15, 0, 15
 
 /* The three slices, the same for every call. */
 #define RESHQOBI_SLICES                                                                                                    \
     uint8_t *image, size_t image_bytes, uint8_t *store, size_t store_bytes, uint8_t *values, size_t values_bytes
 
-/* BT: the first state and store; a home password for each domain, none 0. Looks at the image's length only. Refusals 2, 13, 4, 5. */
-uint64_t reshqobi_bt(RESHQOBI_SLICES, uint64_t domain, uint64_t home0, uint64_t home1, uint64_t home2, uint64_t home3);
+/* BT: the first state and store. A home password for each domain, none 0; the limit of each account in pages, 1 to 128; then for
+ * each domain the account of its home page, 0 to 3, and its set, the accounts that it may charge: 0 to 15, with 2 to the power a for
+ * account a. A home account outside its set, or a limit below the home pages on its account, is out of range. Looks at the image's
+ * length only. Refusals 2, 13, 4, 5. */
+uint64_t reshqobi_bt(RESHQOBI_SLICES, uint64_t domain, uint64_t home0, uint64_t home1, uint64_t home2, uint64_t home3,
+                     uint64_t limit0, uint64_t limit1, uint64_t limit2, uint64_t limit3, uint64_t account0, uint64_t set0,
+                     uint64_t account1, uint64_t set1, uint64_t account2, uint64_t set2, uint64_t account3, uint64_t set3);
 
 /* RD: the word at an address, 0 to 8,191. Refusals 2, 13, 4, 5, 7. */
 uint64_t reshqobi_rd(RESHQOBI_SLICES, uint64_t domain, uint64_t address);
@@ -66,10 +75,10 @@ uint64_t reshqobi_ex(RESHQOBI_SLICES, uint64_t domain, uint64_t address);
 /* LK: the address of the pair that grants the rights, 1 to 31. Refusals 2, 13, 4, 5, 7. */
 uint64_t reshqobi_lk(RESHQOBI_SLICES, uint64_t domain, uint64_t address, uint64_t rights);
 
-/* CR: a new object of 1 to 32 pages with its owner's password. Refusals 2, 13, 4, 5, 9, 11. */
-uint64_t reshqobi_cr(RESHQOBI_SLICES, uint64_t domain, uint64_t page, uint64_t pages, uint64_t password);
+/* CR: a new object of 1 to 32 pages with its owner's password, charged to an account, 0 to 3. Refusals 2, 13, 4, 5, 9, 14, 15, 11. */
+uint64_t reshqobi_cr(RESHQOBI_SLICES, uint64_t domain, uint64_t page, uint64_t pages, uint64_t password, uint64_t account);
 
-/* DL: the object goes. Refusals 2, 13, 4, 5, 7. */
+/* DL: the object goes, and its account has its pages back. Refusals 2, 13, 4, 5, 7. */
 uint64_t reshqobi_dl(RESHQOBI_SLICES, uint64_t domain, uint64_t base);
 
 /* AP: a password more, in a mode. Refusals 2, 13, 4, 5, 6, 7, 10, 11. */

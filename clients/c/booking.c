@@ -48,11 +48,11 @@ static void show_slots(uint64_t answer)
 /* The listing of document 01. */
 static void listing(void)
 {
-    show(reshqobi_bt(SLICES, 0, 11, 12, 13, 14));
+    show(reshqobi_bt(SLICES, 0, 11, 12, 13, 14, RESHQOBI_AMPLE));
     show(reshqobi_rd(SLICES, 0, 0));
     show(reshqobi_rd(SLICES, 1, 2048));
     show(reshqobi_rd(SLICES, 0, 2048));
-    show(reshqobi_cr(SLICES, 0, 1, 1, 21));
+    show(reshqobi_cr(SLICES, 0, 1, 1, 21, 0));
     show(reshqobi_rd(SLICES, 0, 64));
     show(reshqobi_wr(SLICES, 0, 2, 256));
     show(reshqobi_wr(SLICES, 0, 3, 21));
@@ -64,10 +64,10 @@ static void listing(void)
 /* Domain 1 registers a procedure, and domain 0 is told its password. */
 static void registration(void)
 {
-    show(reshqobi_cr(SLICES, 1, 33, 1, 31));
+    show(reshqobi_cr(SLICES, 1, 33, 1, 31, 0));
     show(reshqobi_wr(SLICES, 1, 2050, 8448));
     show(reshqobi_wr(SLICES, 1, 2051, 31));
-    show(reshqobi_cr(SLICES, 1, 34, 1, 41));
+    show(reshqobi_cr(SLICES, 1, 34, 1, 41, 0));
     show(reshqobi_wr(SLICES, 1, 2052, 8704));
     show(reshqobi_wr(SLICES, 1, 2053, 41));
     show(reshqobi_rg(SLICES, 1, 33, 32, 32, 12, 1, 2112, 0, 0, 0));

@@ -1,6 +1,6 @@
 //! The calls of examples/booking.calls; prints what the call program prints.
 
-use reshqobi::{Capability, Monitor, Refusal, Slots, WHOLE_LOCK};
+use reshqobi::{Capability, Monitor, Plan, Refusal, Slots, WHOLE_LOCK};
 
 /// What a done call gives, as the call program prints it.
 trait Value {
@@ -42,11 +42,11 @@ impl Answers {
 
 /// The listing of document 01.
 fn listing(monitor: &mut Monitor, answers: &mut Answers) {
-    answers.show(monitor.boot(0, [11, 12, 13, 14]));
+    answers.show(monitor.boot(0, Plan::ample([11, 12, 13, 14])));
     answers.show(monitor.read(0, 0));
     answers.show(monitor.read(1, 2048));
     answers.show(monitor.read(0, 2048));
-    answers.show(monitor.create(0, 1, 1, 21));
+    answers.show(monitor.create(0, 1, 1, 21, 0));
     answers.show(monitor.read(0, 64));
     answers.show(monitor.write(0, 2, 256));
     answers.show(monitor.write(0, 3, 21));
@@ -61,10 +61,10 @@ fn registration(monitor: &mut Monitor, answers: &mut Answers) {
         page: 32,
         password: 12,
     };
-    answers.show(monitor.create(1, 33, 1, 31));
+    answers.show(monitor.create(1, 33, 1, 31, 0));
     answers.show(monitor.write(1, 2050, 8448));
     answers.show(monitor.write(1, 2051, 31));
-    answers.show(monitor.create(1, 34, 1, 41));
+    answers.show(monitor.create(1, 34, 1, 41, 0));
     answers.show(monitor.write(1, 2052, 8704));
     answers.show(monitor.write(1, 2053, 41));
     answers.show(monitor.register(1, 33, 32, list, &[2112]));

@@ -2,7 +2,7 @@
 //! in the order of include/reshqobi.h is given.
 
 use crate::values::Values;
-use crate::{sys, Capability, Monitor, Refusal, Slots};
+use crate::{sys, Capability, Monitor, Plan, Refusal, Slots};
 use crate::{IMAGE_BYTES, STORE_BYTES, VALUES_BYTES};
 
 /// Calls a C function on the monitor's bytes.
@@ -29,10 +29,17 @@ macro_rules! call {
 type Answer<T> = Result<T, Refusal>;
 
 impl Monitor {
-    /// BT: zeroes the store and starts anew, with a home password for each domain.
-    pub fn boot(&mut self, domain: u64, homes: [u64; 4]) -> Answer<()> {
-        let [home0, home1, home2, home3] = homes;
-        call!(self, reshqobi_bt, domain, home0, home1, home2, home3).map(drop)
+    /// BT: zeroes the store and starts anew, by a plan.
+    #[rustfmt::skip]
+    pub fn boot(&mut self, domain: u64, plan: Plan) -> Answer<()> {
+        let Plan { homes: h, limits: l, accounts: a, sets: s } = plan;
+        call!(
+            self, reshqobi_bt, domain,
+            h[0], h[1], h[2], h[3],
+            l[0], l[1], l[2], l[3],
+            a[0], s[0], a[1], s[1], a[2], s[2], a[3], s[3]
+        )
+        .map(drop)
     }
 
     /// RD, Mungi's read access: the word at an address.
@@ -57,12 +64,20 @@ impl Monitor {
     }
 
     /// CR, Mungi's ObjCreate: a new object of 1 to 32 pages, its words zeroed,
-    /// with its owner's password.
-    pub fn create(&mut self, domain: u64, page: u64, pages: u64, password: u64) -> Answer<()> {
-        call!(self, reshqobi_cr, domain, page, pages, password).map(drop)
+    /// with its owner's password, charged to an account, 0 to 3.
+    pub fn create(
+        &mut self,
+        domain: u64,
+        page: u64,
+        pages: u64,
+        password: u64,
+        account: u64,
+    ) -> Answer<()> {
+        call!(self, reshqobi_cr, domain, page, pages, password, account).map(drop)
     }
 
-    /// DL, Mungi's ObjDelete: removes the object; its words stay.
+    /// DL, Mungi's ObjDelete: removes the object; its words stay, and its
+    /// account has its pages back.
     pub fn delete(&mut self, domain: u64, base: u64) -> Answer<()> {
         call!(self, reshqobi_dl, domain, base).map(drop)
     }

@@ -5,10 +5,10 @@
 //! [`Refusal`]. docs/CALLS.md has the calls, docs/IMAGE.md the bytes.
 //!
 //! ```
-//! use reshqobi::{Monitor, Refusal};
+//! use reshqobi::{Monitor, Plan, Refusal};
 //!
 //! let mut monitor = Monitor::new();
-//! monitor.boot(0, [11, 12, 13, 14])?;
+//! monitor.boot(0, Plan::ample([11, 12, 13, 14]))?;
 //! assert_eq!(monitor.read(1, 2048), Ok(32 * 256 + 15));
 //! assert_eq!(monitor.read(0, 2048), Err(Refusal::NotGranted));
 //! # Ok::<(), Refusal>(())
@@ -16,11 +16,13 @@
 
 mod calls;
 mod monitor;
+mod plan;
 mod refusal;
 pub mod sys;
 mod values;
 
 pub use monitor::Monitor;
+pub use plan::Plan;
 pub use refusal::Refusal;
 pub use values::Slots;
 

@@ -17,11 +17,13 @@ pub enum Refusal {
     Full = 11,
     Missing = 12,
     Unreadable = 13,
+    NotPermitted = 14,
+    LimitPassed = 15,
 }
 
 impl Refusal {
     /// All of them, by rising number.
-    pub const ALL: [Refusal; 11] = [
+    pub const ALL: [Refusal; 13] = [
         Refusal::StoreLength,
         Refusal::NoDomain,
         Refusal::OutOfRange,
@@ -33,6 +35,8 @@ impl Refusal {
         Refusal::Full,
         Refusal::Missing,
         Refusal::Unreadable,
+        Refusal::NotPermitted,
+        Refusal::LimitPassed,
     ];
 
     /// The answer number.
@@ -70,6 +74,8 @@ impl fmt::Display for Refusal {
             }
             Refusal::Missing => "nothing there: no such slot or password, or nothing saved",
             Refusal::Unreadable => "the values have not 88 bytes or the image does not read",
+            Refusal::NotPermitted => "CR: the account is not in the caller's set",
+            Refusal::LimitPassed => "CR: the account's pages would pass its limit",
         })
     }
 }

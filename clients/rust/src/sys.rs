@@ -17,6 +17,18 @@ extern "C" {
         home1: u64,
         home2: u64,
         home3: u64,
+        limit0: u64,
+        limit1: u64,
+        limit2: u64,
+        limit3: u64,
+        account0: u64,
+        set0: u64,
+        account1: u64,
+        set1: u64,
+        account2: u64,
+        set2: u64,
+        account3: u64,
+        set3: u64,
     ) -> u64;
 
     pub fn reshqobi_rd(
@@ -76,6 +88,7 @@ extern "C" {
         page: u64,
         pages: u64,
         password: u64,
+        account: u64,
     ) -> u64;
 
     pub fn reshqobi_dl(

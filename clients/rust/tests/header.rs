@@ -63,6 +63,22 @@ fn the_numbers_are_the_header_s() {
     assert_eq!(mine, numbers());
 }
 
+/// RESHQOBI_AMPLE has the limits, then each domain's account and set.
+#[test]
+fn the_ample_plan_is_the_header_s() {
+    let header = header();
+    let (_, ample) = header
+        .split_once("#define RESHQOBI_AMPLE ")
+        .expect("the ample accounts");
+    let numbers = ample.lines().next().expect("a line").split(", ");
+    let numbers: Vec<u64> = numbers.map(|n| n.parse().expect("a number")).collect();
+    let plan = Plan::ample([5, 6, 7, 8]);
+    assert_eq!(plan.homes, [5, 6, 7, 8]);
+    let domains = (0..4).flat_map(|d| [plan.accounts[d], plan.sets[d]]);
+    let mine: Vec<u64> = plan.limits.into_iter().chain(domains).collect();
+    assert_eq!(mine, numbers);
+}
+
 /// A function's name, and its parameters as name and Rust type.
 type Function = (String, Vec<(String, String)>);
 
@@ -128,5 +144,5 @@ fn the_words_are_the_documents() {
         assert!(found, "{number}: {refusal}");
         assert_eq!(Refusal::of(number), Some(refusal));
     }
-    assert_eq!([0, 1, 3, 14, u64::MAX].map(Refusal::of), [None; 5]);
+    assert_eq!([0, 1, 3, 16, u64::MAX].map(Refusal::of), [None; 5]);
 }

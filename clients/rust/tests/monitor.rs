@@ -4,7 +4,7 @@ use reshqobi::*;
 
 fn booted() -> Monitor {
     let mut monitor = Monitor::new();
-    monitor.boot(0, [11, 12, 13, 14]).unwrap();
+    monitor.boot(0, Plan::ample([11, 12, 13, 14])).unwrap();
     monitor
 }
 
@@ -43,10 +43,13 @@ fn from_bytes_takes_what_reads() {
     assert_eq!(short, Err(Refusal::StoreLength));
     let short = Monitor::from_bytes(&image[1..], store);
     assert_eq!(short, Err(Refusal::Unreadable));
-    let mut image = *image;
-    image[IMAGE_BYTES - 1] = 5;
-    let deep = Monitor::from_bytes(&image, store);
-    assert_eq!(deep, Err(Refusal::Unreadable));
+    // The last depth, the first limit and the last set, each above its bound.
+    for (at, byte) in [(3583, 5), (3584, 129), (IMAGE_BYTES - 1, 16)] {
+        let mut image = *image;
+        image[at] = byte;
+        let wrong = Monitor::from_bytes(&image, store);
+        assert_eq!(wrong, Err(Refusal::Unreadable), "{byte} at {at}");
+    }
 }
 
 #[test]
@@ -61,7 +64,7 @@ fn slots_and_locks() {
         })
     };
     assert_eq!(monitor.get(3), slots(&[], 0, false));
-    monitor.boot(3, [11, 12, 13, 14]).unwrap();
+    monitor.boot(3, Plan::ample([11, 12, 13, 14])).unwrap();
     let home = Capability {
         page: 32,
         password: 12,

@@ -1,10 +1,10 @@
 //! A call of the second implementation as a method of the Rust client.
 
 use refmonitor::monitor::{Call, Capability, Done, Outcome, Refusal};
-use reshqobi::{Monitor, Slots};
+use reshqobi::{Monitor, Plan, Slots};
 
 /// The refusals of the second implementation.
-const REFUSALS: [Refusal; 9] = [
+const REFUSALS: [Refusal; 11] = [
     Refusal::Domain,
     Refusal::Range,
     Refusal::Locked,
@@ -14,6 +14,8 @@ const REFUSALS: [Refusal; 9] = [
     Refusal::Known,
     Refusal::Full,
     Refusal::Absent,
+    Refusal::Account,
+    Refusal::Limit,
 ];
 
 fn refused(refusal: reshqobi::Refusal) -> Refusal {
@@ -37,12 +39,12 @@ pub fn answer(m: &mut Monitor, d: u64, call: &Call) -> Outcome {
     let none = |()| Done::Value(0);
     #[rustfmt::skip]
     let answer = match *call {
-        Call::Bt { homes } => m.boot(d, homes).map(none),
+        Call::Bt { homes, limits, accounts, sets } => m.boot(d, Plan { homes, limits, accounts, sets }).map(none),
         Call::Rd { address } => m.read(d, address).map(Done::Value),
         Call::Wr { address, value } => m.write(d, address, value).map(none),
         Call::Ex { address } => m.execute(d, address).map(Done::Value),
         Call::Lk { address, rights } => m.lookup(d, address, rights).map(Done::Value),
-        Call::Cr { page, count, password } => m.create(d, page, count, password).map(none),
+        Call::Cr { page, count, password, account } => m.create(d, page, count, password, account).map(none),
         Call::Dl { base } => m.delete(d, base).map(none),
         Call::Ap { base, password, mode } => m.add_password(d, base, password, mode).map(none),
         Call::Dp { base, password } => m.drop_password(d, base, password).map(none),

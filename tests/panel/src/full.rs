@@ -28,6 +28,11 @@ fn list(base: u64) -> Capability {
     }
 }
 
+/// The account of the object with that base: 1, 2, 3 and again.
+fn account(base: u64) -> u64 {
+    1 + base / SIZE % 3
+}
+
 fn object(base: u64) -> PlacedObject {
     let mut passwords = [None; MAX_PASSWORDS];
     for (number, place) in passwords.iter_mut().enumerate() {
@@ -46,6 +51,7 @@ fn object(base: u64) -> PlacedObject {
             list: list(base),
             entries: entries.collect(),
         }),
+        account: account(base),
     }
 }
 
@@ -58,10 +64,21 @@ fn frame(domain: usize, locked: usize, whole: bool) -> Frame {
     }
 }
 
+/// The most pages of each account. Account 2 is charged as many, account 3 is
+/// charged more.
+const LIMITS: [u64; ACCOUNTS] = [1, MAX_LIMIT, 44, 39];
+
+/// The accounts that each domain may charge.
+const SETS: [u64; DOMAINS] = [6, MAX_SET, 8, 11];
+
 /// Eight objects in every estate, each with four passwords and a registration
 /// with four entries; eight slots and four saved frames in every domain.
 pub fn full() -> Placed {
-    let mut state = Placed::default();
+    let mut state = Placed {
+        limits: LIMITS,
+        sets: SETS,
+        ..Placed::default()
+    };
     for d in 0..DOMAINS {
         for place in 0..MAX_OBJECTS {
             state.estates[d][place] = Some(object(base(d, place)));
@@ -96,5 +113,7 @@ pub fn store() -> Vec<u64> {
 fn the_full_state_reads() {
     let image = encode(&full());
     assert_eq!(decode(&image).as_ref(), Some(&full()));
-    assert!(full().monitor(store()).is_sound());
+    let monitor = full().monitor(store());
+    assert!(monitor.is_sound());
+    assert_eq!(monitor.figures(), [0, 44, 44, 40]);
 }

@@ -1,6 +1,8 @@
 //! Calls on the full state whose cost is counted.
 
 use crate::full::{full, store};
+#[cfg(test)]
+use crate::slices::real;
 use crate::slices::Slices;
 use refmonitor::image::{encode, store_bytes};
 use refmonitor::lines;
@@ -11,8 +13,8 @@ pub enum Image {
     Full,
     /// It is one byte short.
     Short,
-    /// Its last byte, a depth, is 5.
-    Deep,
+    /// Its last byte, the set of domain 3, is 16.
+    Last,
 }
 
 /// Calls that are counted by themselves: a name, a title, the image, the lines
@@ -41,11 +43,11 @@ const fn kind(
     }
 }
 
-/// Page 28 is the last object of domain 0, with the password 1280.
+/// Page 28 is the last object of domain 0, with the password 1280, on account 2.
 #[rustfmt::skip]
 pub const KINDS: [Kind; 10] = [
     kind("short", "GT, an image one byte short, refused by 13", Image::Short, b"0,GT\n", 13),
-    kind("deep", "GT, the last byte of the image does not read, refused by 13", Image::Deep, b"0,GT\n", 13),
+    kind("last", "GT, the last byte of the image does not read, refused by 13", Image::Last, b"0,GT\n", 13),
     kind("domain", "RD by domain 4, refused by 4", Image::Full, b"4,RD,0\n", 4),
     kind("gt", "GT", Image::Full, b"0,GT\n", 0),
     kind("first", "RD granted by the first pair", Image::Full, b"0,RD,0\n", 0),
@@ -53,7 +55,7 @@ pub const KINDS: [Kind; 10] = [
     kind("wr", "WR granted by the first pair", Image::Full, b"0,WR,9,5\n", 0),
     kind("lo", "LO of the whole domain", Image::Full, b"0,LO,255\n", 0),
     kind("rm", "RM and IN of the last slot, by turns", Image::Full, b"0,RM,7\n0,IN,7,28,1280\n", 0),
-    kind("cr", "DL and CR of four pages, by turns", Image::Full, b"0,DL,28\n0,CR,28,4,1280\n", 0),
+    kind("cr", "DL and CR of four pages, by turns", Image::Full, b"0,DL,28\n0,CR,28,4,1280,2\n", 0),
 ];
 
 impl Kind {
@@ -67,8 +69,21 @@ impl Kind {
         match self.image {
             Image::Full => {}
             Image::Short => drop(image.pop()),
-            Image::Deep => *image.last_mut().expect("bytes") = 5,
+            Image::Last => *image.last_mut().expect("bytes") = 16,
         }
         Slices::new(&image, &store_bytes(&store()))
+    }
+}
+
+#[test]
+fn each_kind_gives_its_answer() {
+    for kind in KINDS {
+        let (mut slices, calls) = (kind.slices(), kind.calls());
+        let lines = kind.lines.iter().filter(|&&byte| byte == b'\n');
+        assert_eq!(calls.len(), lines.count(), "{}", kind.name);
+        for (domain, call) in calls.iter().cycle().take(4) {
+            let answer = real(&mut slices, *domain, call);
+            assert_eq!(answer, kind.answer, "{}: {call:?}", kind.name);
+        }
     }
 }

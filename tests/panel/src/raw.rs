@@ -19,12 +19,14 @@ pub unsafe fn raw([i, s, v]: [Slice; 3], domain: u64, call: &Call) -> u64 {
     }
     #[rustfmt::skip]
     let answer = match *call {
-        Call::Bt { homes: h } => c!(reshqobi_bt, h[0], h[1], h[2], h[3]),
+        Call::Bt { homes: h, limits: l, accounts: a, sets: t } => {
+            c!(reshqobi_bt, h[0], h[1], h[2], h[3], l[0], l[1], l[2], l[3], a[0], t[0], a[1], t[1], a[2], t[2], a[3], t[3])
+        }
         Call::Rd { address } => c!(reshqobi_rd, address),
         Call::Wr { address, value } => c!(reshqobi_wr, address, value),
         Call::Ex { address } => c!(reshqobi_ex, address),
         Call::Lk { address, rights } => c!(reshqobi_lk, address, rights),
-        Call::Cr { page, count, password } => c!(reshqobi_cr, page, count, password),
+        Call::Cr { page, count, password, account } => c!(reshqobi_cr, page, count, password, account),
         Call::Dl { base } => c!(reshqobi_dl, base),
         Call::Ap { base, password, mode } => c!(reshqobi_ap, base, password, mode),
         Call::Dp { base, password } => c!(reshqobi_dp, base, password),

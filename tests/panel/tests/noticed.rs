@@ -21,7 +21,7 @@ fn frame(state: &mut Placed) -> &mut Frame {
 
 type Change = fn(&mut Placed);
 
-const CHANGES: [(&str, Change); 22] = [
+const CHANGES: [(&str, Change); 29] = [
     ("the object is gone", |s| s.estates[1][2] = None),
     ("a page less", |s| {
         registration(s).entries.pop();
@@ -62,6 +62,19 @@ const CHANGES: [(&str, Change); 22] = [
         s.domains[3].saved.swap(0, 3)
     }),
     ("two domains swapped", |s| s.domains.swap(0, 3)),
+    ("another account", |s| object(s).account ^= 1),
+    ("two accounts swapped", |s| {
+        let [.., a, b] = &mut s.estates[3];
+        std::mem::swap(
+            &mut a.as_mut().unwrap().account,
+            &mut b.as_mut().unwrap().account,
+        );
+    }),
+    ("a page less of a limit", |s| s.limits[3] -= 1),
+    ("no limit", |s| s.limits[0] = 0),
+    ("two limits swapped", |s| s.limits.swap(0, 3)),
+    ("an account less in a set", |s| s.sets[3] &= !8),
+    ("two sets swapped", |s| s.sets.swap(0, 2)),
 ];
 
 /// The full state, with saved domains that differ.

@@ -1,6 +1,6 @@
 //! What the slices may be: wrong lengths, changed bytes, junk before a boot.
 
-use panel::checks::{boots, copied, flipped, lengths, unreadable, Beside, Flipped};
+use panel::checks::{boots, charges, copied, flipped, lengths, unreadable, Beside, Flipped};
 use panel::stage::stage;
 use panel::{full, real, scattered, Slices};
 use refmonitor::image::{encode, store_bytes, Placed};
@@ -24,6 +24,23 @@ fn boots_on_junk() {
 #[test]
 fn no_call_takes_an_image_that_does_not_read() {
     assert_eq!(unreadable(&real), Ok(()));
+}
+
+/// Accounts, limits and sets up to their bounds read, also where an account is
+/// charged more than its limit, and no others. CR is answered by them.
+#[test]
+fn every_account_limit_and_set() {
+    let found = charges(&real).unwrap_or_else(|what| panic!("{what}"));
+    // Four accounts of each of five objects, a zero in 27 free places, the limits
+    // 0 to 128, the sets 0 to 15; of 256 values at 32, 4 and 4 places.
+    let read = 4 * 5 + 27 + 4 * 129 + 4 * 16;
+    assert_eq!(found.images.read, read);
+    assert_eq!(found.images.refused, 256 * 40 - read);
+    assert!(found.above > 4, "{} above a limit", found.above);
+    for answer in [0, 5, 9, 14, 15] {
+        let times = found.answers.get(&answer).copied().unwrap_or(0);
+        assert!(times > 100, "CR with answer {answer}: {times} times");
+    }
 }
 
 /// RG takes any number as the number of entries; good entries beside it do not
@@ -112,6 +129,7 @@ fn changed_bytes_of_the_full_state() {
 #[test]
 fn changed_bytes_of_the_first_state() {
     let found = flipped(&real, &Slices::of(&Monitor::new()), &Monitor::new().store).unwrap();
-    // A free object's page count may be set to 1 in the first estate alone.
+    // Limits and sets may be set to 1, but a free object's page count in the
+    // first estate alone.
     assert!(found.read > 0 && found.refused > 10_000);
 }

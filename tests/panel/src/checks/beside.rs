@@ -20,22 +20,28 @@ impl<'a> Beside<'a> {
     /// The state before a boot.
     pub fn new(panel: Panel<'a>) -> Self {
         let second = Monitor::new();
+        Beside::at(panel, Slices::of(&second), second)
+    }
+
+    /// Slices that hold the second implementation's state.
+    pub(super) fn at(panel: Panel<'a>, slices: Slices, second: Monitor) -> Self {
         Beside {
             panel,
-            slices: Slices::of(&second),
+            slices,
             second,
         }
     }
 
-    /// One call: the same answer and values; then the same state and store,
-    /// and on a refusal the same bytes as before.
-    pub fn call(&mut self, domain: u64, call: &Call) -> Result<(), String> {
+    /// One call: the same answer, which is given, and the same values; then the
+    /// same state and store, and on a refusal the same bytes as before.
+    pub fn call(&mut self, domain: u64, call: &Call) -> Result<u64, String> {
         let outcome = self.second.call(domain, call);
         let (number, values) = expected(&outcome);
         let slices = &mut self.slices;
         if outcome.is_err() {
             let before = slices.clone();
-            return known(slices, self.panel, (domain, call), number, &values, &before);
+            known(slices, self.panel, (domain, call), number, &values, &before)?;
+            return Ok(number);
         }
         let got = slices.call(self.panel, domain, call)?;
         if (got, slices.values.bytes()) != (number, &values[..]) {
@@ -45,8 +51,10 @@ impl<'a> Beside<'a> {
             ));
         }
         let (image, store) = (slices.image.bytes(), slices.store.bytes());
-        same_state(image, store, &self.second)
-            .map_err(|what| format!("{call:?} by {domain}: {what}"))
+        match same_state(image, store, &self.second) {
+            Ok(()) => Ok(number),
+            Err(what) => Err(format!("{call:?} by {domain}: {what}")),
+        }
     }
 
     /// Puts the objects and passwords of the image into other places.

@@ -1,32 +1,89 @@
-//! Boots on an image that does not read.
+//! Boots on an image that does not read, in range and out of it.
 
 use super::{refused, same_state};
 use crate::answer::expected;
 use crate::slices::{Panel, Slices};
 use refmonitor::image::decode;
-use refmonitor::monitor::{Call, Monitor};
+use refmonitor::monitor::{home_pages, Call, Monitor};
 use refmonitor::random::Random;
-use reshqobi::{Refusal, IMAGE_BYTES, STORE_BYTES};
+use reshqobi::{Plan, Refusal, IMAGE_BYTES, STORE_BYTES};
 
 /// Bytes of any value.
 fn junk(random: &mut Random, length: usize) -> Vec<u8> {
     (0..length).map(|_| random.word() as u8).collect()
 }
 
-/// A refused boot leaves image and store; a done one gives the first state.
-fn boot(panel: Panel, slices: &mut Slices, homes: [u64; 4]) -> Result<(), String> {
-    for at in 0..4 {
-        let mut zero = homes;
-        zero[at] = 0;
-        let call = Call::Bt { homes: zero };
-        refused(slices, panel, (0, &call), Refusal::OutOfRange.number())?;
-        refused(slices, panel, (4, &call), Refusal::NoDomain.number())?;
+/// The numbers of a boot that is done, often at their bounds.
+fn in_range(random: &mut Random) -> Plan {
+    let accounts = [(); 4].map(|()| random.below(4));
+    let limits = [0, 1, 2, 3].map(|account| {
+        let least = home_pages(&accounts, account).max(1);
+        let any = least + random.below(100);
+        random.pick(&[least, 128, any])
+    });
+    let sets = accounts.map(|home| {
+        let any = random.below(16);
+        1 << home | random.pick(&[0, 15, any])
+    });
+    Plan {
+        homes: [(); 4].map(|()| random.word() | 1),
+        limits,
+        accounts,
+        sets,
     }
-    let (call, mut second) = (Call::Bt { homes }, Monitor::new());
+}
+
+/// The same with one number out of its range, or not fitting the others.
+fn out_of_range(plan: Plan) -> Vec<Plan> {
+    let mut all = Vec::new();
+    let mut with = |change: &dyn Fn(&mut Plan)| {
+        let mut wrong = plan;
+        change(&mut wrong);
+        all.push(wrong);
+    };
+    let more = [1 << 8, 1 << 16, 1 << 32, 1 << 63];
+    for at in 0..4 {
+        let (home, set) = (plan.accounts[at], plan.sets[at]);
+        with(&|p| p.homes[at] = 0);
+        for limit in [0, 129, u64::MAX] {
+            with(&|p| p.limits[at] = limit);
+        }
+        for account in [4, 4 + home, u64::MAX] {
+            with(&|p| p.accounts[at] = account);
+        }
+        for set in [0, 16, 16 + set, set & !(1 << home), u64::MAX] {
+            with(&|p| p.sets[at] = set);
+        }
+        for more in more {
+            with(&|p| p.limits[at] += more);
+            with(&|p| p.accounts[at] += more);
+            with(&|p| p.sets[at] += more);
+        }
+        with(&|p| p.limits[home as usize] = home_pages(&p.accounts, home) - 1);
+    }
+    all
+}
+
+fn call(plan: Plan) -> Call {
+    Call::Bt {
+        homes: plan.homes,
+        limits: plan.limits,
+        accounts: plan.accounts,
+        sets: plan.sets,
+    }
+}
+
+/// A refused boot leaves image and store; a done one gives the first state.
+fn boot(panel: Panel, slices: &mut Slices, plan: Plan) -> Result<(), String> {
+    for wrong in out_of_range(plan).into_iter().map(call) {
+        refused(slices, panel, (0, &wrong), Refusal::OutOfRange.number())?;
+        refused(slices, panel, (4, &wrong), Refusal::NoDomain.number())?;
+    }
+    let (call, mut second) = (call(plan), Monitor::new());
     refused(slices, panel, (u64::MAX, &call), Refusal::NoDomain.number())?;
     let (number, values) = expected(&second.call(3, &call));
     let got = slices.call(panel, 3, &call)?;
-    if (got, slices.values.bytes()) != (number, &values[..]) {
+    if (got, number, slices.values.bytes()) != (0, 0, &values[..]) {
         return Err(format!("a boot gave {got}, {:?}", slices.values.bytes()));
     }
     same_state(slices.image.bytes(), slices.store.bytes(), &second)
@@ -44,8 +101,7 @@ pub fn boots(panel: Panel, seeds: u64) -> Result<(), String> {
             return Err("junk reads".to_string());
         }
         let mut slices = Slices::new(&image, &junk(&mut random, STORE_BYTES));
-        let homes = [(); 4].map(|()| random.word() | 1);
-        boot(panel, &mut slices, homes)?;
+        boot(panel, &mut slices, in_range(&mut random))?;
     }
     Ok(())
 }

@@ -1,9 +1,11 @@
 //! Images in which one part was copied over another of the same kind: an object,
-//! a password, a registration, a frame, a slot, a domain.
+//! a password, a registration, an account, a frame, a slot, a domain, a limit or
+//! a set.
 
 use super::flipped::Flipped;
 use crate::slices::{Panel, Slices};
 use refmonitor::image::{DOMAINS_AT, DOMAIN_BYTES, FRAME_BYTES, OBJECT_BYTES};
+use refmonitor::image::{IMAGE_BYTES, LIMITS_AT};
 use refmonitor::random::Random;
 
 /// Where the parts of one kind begin, and their length.
@@ -31,11 +33,13 @@ fn kinds() -> Vec<Parts> {
         parts(passwords, 9),
         parts(objects().map(|at| at + 38), 26),
         parts(objects().map(|at| at + 55), 9),
+        parts(objects().map(|at| at + 64), 1),
         parts(domains(), DOMAIN_BYTES),
         parts(domains().map(|at| at + 375), 1),
         parts(frames(), FRAME_BYTES),
         parts(frames().flat_map(|at| (0..8).map(move |k| at + 9 * k)), 9),
         parts(frames().map(|at| at + 72), 3),
+        parts(LIMITS_AT..IMAGE_BYTES, 1),
     ]
 }
 

@@ -6,6 +6,7 @@ use crate::answer::expected;
 use crate::slices::{Panel, Slices};
 use crate::stage::{sixteen, stage};
 use refmonitor::image::{decode, Placed, DOMAINS_AT, DOMAIN_BYTES, IMAGE_BYTES};
+use refmonitor::image::{LIMITS_AT, SETS_AT};
 use refmonitor::monitor::{Call, Monitor, WHOLE};
 use reshqobi::Refusal;
 
@@ -129,9 +130,14 @@ pub fn unreadable(panel: Panel) -> Result<(), String> {
         (1, 33),
         (10, 16),
         (63, 1),
-        (2047, 1),
+        (64, 4),
+        (DOMAINS_AT - 2, 1),
+        (DOMAINS_AT - 1, 1),
         (whole_lock(0), 2),
         (whole_lock(3) + 1, 1),
+        (LIMITS_AT - 1, 5),
+        (LIMITS_AT + 1, 129),
+        (SETS_AT + 3, 16),
     ] {
         let mut slices = stage.clone();
         slices.image.bytes_mut()[at] = byte;

@@ -2,6 +2,7 @@
 
 mod beside;
 mod boots;
+mod charges;
 mod copied;
 mod flipped;
 mod lengths;
@@ -9,6 +10,7 @@ mod state;
 
 pub use beside::{play, Beside};
 pub use boots::boots;
+pub use charges::{charges, Charges};
 pub use copied::copied;
 pub use flipped::{flipped, unreadable, Flipped};
 pub use lengths::lengths;

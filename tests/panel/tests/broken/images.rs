@@ -1,13 +1,16 @@
 //! Faults with images that do not read.
 
 use super::*;
-use refmonitor::image::decode;
+use refmonitor::image::{decode, DOMAINS_AT, DOMAIN_BYTES, ESTATE_BYTES, OBJECT_BYTES};
 
 /// The words of page 1's second password and of its registration.
 fn second_and_registered(slices: &Slices) -> [&[u8]; 2] {
-    let object = &slices.image.bytes()[64..128];
+    let object = &slices.image.bytes()[OBJECT_BYTES..2 * OBJECT_BYTES];
     [&object[11..19], &object[38..46]]
 }
+
+/// Where the number of slots of domain 3 stands.
+const SLOTS: usize = DOMAINS_AT + 3 * DOMAIN_BYTES + 72;
 
 pub const FAULTS: [Fault; 10] = [
     ("every image reads", changed_bytes, |s, d, c| {
@@ -20,7 +23,7 @@ pub const FAULTS: [Fault; 10] = [
         "a large page reads",
         changed_bytes,
         |s, d, c| match decode(s.image.bytes()) {
-            None if s.image.bytes()[2048] > 127 => 7,
+            None if s.image.bytes()[DOMAINS_AT] > 127 => 7,
             _ => real(s, d, c),
         },
     ),
@@ -33,7 +36,7 @@ pub const FAULTS: [Fault; 10] = [
         },
     ),
     ("two slots do not read", changed_bytes, |s, d, c| {
-        match s.image.bytes()[3248] {
+        match s.image.bytes()[SLOTS] {
             2 => 13,
             _ => real(s, d, c),
         }
@@ -41,7 +44,7 @@ pub const FAULTS: [Fault; 10] = [
     ("LO moves the objects", changed_bytes, |s, d, c| {
         and(s, d, c, |a, c, s| {
             if let (0, Call::Lo { .. }) = (a, c) {
-                s.image.bytes_mut()[..512].rotate_left(64);
+                s.image.bytes_mut()[..ESTATE_BYTES].rotate_left(OBJECT_BYTES);
             }
         })
     }),

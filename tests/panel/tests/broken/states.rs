@@ -1,6 +1,7 @@
 //! Faults in the image and the store that a call leaves.
 
 use super::*;
+use refmonitor::image::{DOMAINS_AT, DOMAIN_BYTES, OBJECT_BYTES};
 
 pub const FAULTS: [Fault; 9] = [
     ("a refusal writes the image", played, |s, d, c| {
@@ -26,21 +27,21 @@ pub const FAULTS: [Fault; 9] = [
     ("slots and locks swapped", played, |s, d, c| {
         and(s, d, c, |a, _, s| {
             if a == 0 {
-                s.image.bytes_mut().swap(2120, 2121)
+                s.image.bytes_mut().swap(DOMAINS_AT + 72, DOMAINS_AT + 73)
             }
         })
     }),
     ("two domains swapped", played, |s, d, c| {
         and(s, d, c, |a, _, s| {
             if a == 0 {
-                s.image.bytes_mut()[2048..2800].rotate_left(376)
+                s.image.bytes_mut()[DOMAINS_AT..][..2 * DOMAIN_BYTES].rotate_left(DOMAIN_BYTES)
             }
         })
     }),
     ("a deleted object leaves bytes", played, |s, d, c| {
         and(s, d, c, |a, c, s| {
             if let (0, Call::Dl { .. }) = (a, c) {
-                let places = s.image.bytes_mut()[..2048].chunks_mut(64);
+                let places = s.image.bytes_mut()[..DOMAINS_AT].chunks_mut(OBJECT_BYTES);
                 let mut free = places.filter(|place| place[1] == 0);
                 free.next().unwrap()[20] = 1;
             }
