@@ -16,7 +16,7 @@ use Rattle.soundness.specs.Laws.StateParts.{parts-accounts}
 use Rattle.calls.specs.Boot.{homeOf, limitOf, accountOf, setOf, bootAccounts, homePages, homesOk, limitsOk, setsOk, roomOk, planOk}
 
 -- an account in a set is one of the four
-in-set-account : (set a : ℕ) → inSet set a ≡ true → a < 4
+pub in-set-account : (set a : ℕ) → inSet set a ≡ true → a < 4
 unfolding inSet
 in-set-account set a h = ltb-true a 4 (and-left _ _ h)
 
