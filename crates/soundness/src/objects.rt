@@ -1,5 +1,4 @@
 // Whether the objects of an estate keep their bounds.
-use rights::Rights;
 use state::Estate;
 use state::Object;
 use state::Password;
@@ -13,17 +12,19 @@ ghost use Prim.Native.Nat.{_/_};
 ghost use lib.Dec.{ltb, eqb};
 ghost use Rattle.bounded.specs.Every.{below};
 ghost use Rattle.rights.specs.Modes.{legal};
+ghost use Rattle.rights.specs.Table.{modeTable};
 ghost use Rattle.state.specs.Places.{entryAt, objectAt};
 ghost use Rattle.state.specs.Extent.{free, covers, liesIn};
 ghost use Rattle.soundness.specs.Sound.{distinct, allPasswords, registrationOk, withoutPasswords, objectOk, apartFrom, estateOk};
 ghost use Rattle.soundness.specs.Laws.Reach.{reach};
 
 // Whether a password is all zero or has a legal mode.
-fn password_ok(p: Password) -> bool
+fn password_ok(modes: &[u8], p: Password) -> bool
+    requires { ⌜ now modes ≡ modeTable ⌝ }
     ensures { λ r. ⌜ r ≡ cond (eqb (p .word) 0) (eqb (p .mode) 0) (legal (p .mode)) ⌝ }
 {
     let unused = p.word == 0;
-    (unused & (p.mode == 0)) | (!unused & Rights::legal(p.mode as u64))
+    (unused & (p.mode == 0)) | (!unused & (modes[p.mode as usize] == 1))
 }
 
 // Whether no nonzero number stands twice among the five.
@@ -118,13 +119,14 @@ fn place_ok(o: Object, d: u8) -> bool
 }
 
 // Whether an object is all zero, or keeps its bounds.
-fn object_ok(o: Object, d: u8) -> bool
+fn object_ok(modes: &[u8], o: Object, d: u8) -> bool
+    requires { ⌜ now modes ≡ modeTable ⌝ }
     ensures { λ r. ⌜ r ≡ objectOk o d ⌝ }
 {
-    let passwords = password_ok(o.passwords[0])
-        & password_ok(o.passwords[1])
-        & password_ok(o.passwords[2])
-        & password_ok(o.passwords[3]);
+    let passwords = password_ok(modes, o.passwords[0])
+        & password_ok(modes, o.passwords[1])
+        & password_ok(modes, o.passwords[2])
+        & password_ok(modes, o.passwords[3]);
     passwords & passwords_distinct(o) & registration_ok(o) & place_ok(o, d)
 }
 
@@ -158,22 +160,24 @@ fn all_apart(e: Estate) -> bool
 }
 
 // Whether each object of the estate keeps its bounds.
-fn objects_ok(e: Estate, d: u8) -> bool
+fn objects_ok(modes: &[u8], e: Estate, d: u8) -> bool
+    requires { ⌜ now modes ≡ modeTable ⌝ }
     ensures { λ r. ⌜ r ≡ below 8 (λ k. objectOk (objectAt e k) d) ⌝ }
 {
-    object_ok(e.objects[0], d)
-        & object_ok(e.objects[1], d)
-        & object_ok(e.objects[2], d)
-        & object_ok(e.objects[3], d)
-        & object_ok(e.objects[4], d)
-        & object_ok(e.objects[5], d)
-        & object_ok(e.objects[6], d)
-        & object_ok(e.objects[7], d)
+    object_ok(modes, e.objects[0], d)
+        & object_ok(modes, e.objects[1], d)
+        & object_ok(modes, e.objects[2], d)
+        & object_ok(modes, e.objects[3], d)
+        & object_ok(modes, e.objects[4], d)
+        & object_ok(modes, e.objects[5], d)
+        & object_ok(modes, e.objects[6], d)
+        & object_ok(modes, e.objects[7], d)
 }
 
 // Whether the estate of domain d keeps its bounds.
-pub fn estate_ok(e: Estate, d: u8) -> bool
+pub fn estate_ok(modes: &[u8], e: Estate, d: u8) -> bool
+    requires { ⌜ now modes ≡ modeTable ⌝ }
     ensures { λ r. ⌜ r ≡ estateOk e d ⌝ }
 {
-    objects_ok(e, d) & all_apart(e)
+    objects_ok(modes, e, d) & all_apart(e)
 }
