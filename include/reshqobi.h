@@ -21,7 +21,7 @@ extern "C" {
 #endif
 
 /* The lengths in bytes of the three slices. */
-#define RESHQOBI_IMAGE_BYTES 3552
+#define RESHQOBI_IMAGE_BYTES 3592
 #define RESHQOBI_STORE_BYTES 65536
 #define RESHQOBI_VALUES_BYTES 88
 

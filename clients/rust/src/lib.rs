@@ -25,7 +25,7 @@ pub use refusal::Refusal;
 pub use values::Slots;
 
 /// The lengths in bytes of the three slices.
-pub const IMAGE_BYTES: usize = 3552;
+pub const IMAGE_BYTES: usize = 3592;
 pub const STORE_BYTES: usize = 65536;
 pub const VALUES_BYTES: usize = 88;
 

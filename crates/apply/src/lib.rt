@@ -25,6 +25,7 @@ use object_calls::obj_passwd_drop;
 use pdx_calls::pdx_call;
 use pdx_calls::pdx_return;
 use register_call::obj_cre_pdx;
+use state::Accounts;
 use state::Domain;
 use state::Frame;
 use state::State;
@@ -36,15 +37,23 @@ ghost use Rattle.calls.specs.Step.{world, result, step, unchecked};
 ghost use Rattle.calls.specs.Parts.{Alters, Moves};
 
 // Any call on objects by domain d.
-pub fn object_call(t: Table, store: &mut [u64], d: u64, f: Frame, call: ObjectCall) -> Altered
-    ensures { λ r. ⌜ Alters t d f (now (store .entry)) call r (now (store .exit)) ⌝ }
+pub fn object_call(
+    t: Table,
+    x: Accounts,
+    store: &mut [u64],
+    d: u64,
+    f: Frame,
+    call: ObjectCall,
+) -> Altered
+    ensures { λ r. ⌜ Alters t x d f (now (store .entry)) call r (now (store .exit)) ⌝ }
 {
     match call {
         ObjectCall::Create {
             page,
             pages,
             password,
-        } => return obj_create(t, store, d, page, pages, password),
+            account,
+        } => return obj_create(t, x, store, d, page, pages, password, account),
         ObjectCall::Delete { base } => return obj_delete(t, store, f, base),
         ObjectCall::AddPassword {
             base,
@@ -87,11 +96,12 @@ fn carried_out(s: State, store: &mut [u64], d: usize, call: Call) -> Outcome
     ensures { λ r. ⌜ result r (now (store .exit)) ≡ unchecked (world s (now (store .entry))) d call ⌝ }
 {
     let t = s.table;
+    let x = s.accounts;
     let m = s.domains[d];
     let f = m.active;
     match call {
         Call::OnStore(c) => return answered(s, access(t, store, f, c)),
-        Call::OnObject(c) => return put_estate(s, object_call(t, store, d as u64, f, c)),
+        Call::OnObject(c) => return put_estate(s, object_call(t, x, store, d as u64, f, c)),
         Call::OnDomain(c) => return put_domain(s, d, domain_call(t, store, m, c)),
     }
 }

@@ -79,12 +79,7 @@ fn boot_accounts(plan: [u64; BOOT_NUMBERS]) -> Accounts
     ensures { λ r. ⌜ r ≡ bootAccounts plan ⌝ }
 {
     Accounts {
-        limits: [
-            plan[4] as u8,
-            plan[5] as u8,
-            plan[6] as u8,
-            plan[7] as u8,
-        ],
+        limits: [plan[4] as u8, plan[5] as u8, plan[6] as u8, plan[7] as u8],
         sets: [
             plan[9] as u8,
             plan[11] as u8,

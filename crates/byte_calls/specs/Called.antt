@@ -63,4 +63,4 @@ called s d c = checkedBy (reading (s .image) .readable) s (step (world (reading 
 
 -- BT: the image must have the length
 unfoldable pub booted : Slices → ℕ → List ℕ → Told
-booted s d homes = checkedBy (eqb (length (s .image)) stateSize) s (boot (words .get (s .store)) d homes)
+booted s d plan = checkedBy (eqb (length (s .image)) stateSize) s (boot (words .get (s .store)) d plan)

@@ -32,7 +32,7 @@ pageEnd p n = cond (leb 128 p) 8192 (cond (leb 128 n) 8192 (pageStart (p + n)))
 
 -- CR: the words of its run
 abbrev pub objectRun : ObjectCall → Changed
-objectRun (Create p n k) = record { state = true; from = pageStart p; to = pageEnd p n }
+objectRun (Create p n k a) = record { state = true; from = pageStart p; to = pageEnd p n }
 objectRun (Delete b) = onlyState true
 objectRun (AddPassword b k m) = onlyState true
 objectRun (DropPassword b k) = onlyState true

@@ -71,6 +71,7 @@ fn object_run(c: ObjectCall) -> Changed
             page,
             pages,
             password,
+            account,
         } => return Changed {
             state: true,
             from: page_start(page),

@@ -6,6 +6,7 @@ use crate::store::save;
 use apply::unchecked;
 use boot::boot;
 use calls::Answer;
+use calls::BOOT_NUMBERS;
 use calls::Call;
 use calls::Outcome;
 use calls::replies::refusal_number;
@@ -102,9 +103,9 @@ pub fn boot_call(
     store: &mut [u8],
     values: &mut [u8],
     d: u64,
-    homes: [u64; 4],
+    plan: [u64; BOOT_NUMBERS],
 ) -> u64
-    ensures { λ r. ⌜ told r (slices (now (image .exit)) (now (store .exit)) (now (values .exit))) ≡ booted (slices (now (image .entry)) (now (store .entry)) (now (values .entry))) d homes ⌝ }
+    ensures { λ r. ⌜ told r (slices (now (image .exit)) (now (store .exit)) (now (values .exit))) ≡ booted (slices (now (image .entry)) (now (store .entry)) (now (values .entry))) d plan ⌝ }
 {
     let wrong = wrong_length(store.len(), values.len());
     if wrong != 0 {
@@ -115,7 +116,7 @@ pub fn boot_call(
     }
     let mut words = [0u64; WORDS];
     load(&mut words, store);
-    let outcome = boot(&mut words, d, homes);
+    let outcome = boot(&mut words, d, plan);
     let all = Changed {
         state: true,
         from: 0,

@@ -18,7 +18,7 @@ writes a x = by 0 (OnStore (Write a x)) (0 ∷ 0 ∷ [])
 abbrev pub endRuns : List (List Exchange)
 endRuns =
     -- the pair for page 2 stands behind a zero pair, and grants nothing until one word of that is filled, whichever
-    (by 0 (OnObject (Create 2 1 23)) (0 ∷ 0 ∷ [])
+    (by 0 (OnObject (Create 2 1 23 0)) (0 ∷ 0 ∷ [])
     ∷ writes 6 512
     ∷ writes 7 23
     ∷ by 0 (OnStore (Read 128)) (7 ∷ 0 ∷ [])
@@ -31,7 +31,7 @@ endRuns =
     ∷ [])
     -- the list in page 2, at slot 1, grants page 1; the pair for page 1 with mode 130, behind a zero pair of the home, denies nothing until
     -- that is filled
-    ∷ (by 0 (OnObject (Create 2 1 23)) (0 ∷ 0 ∷ [])
+    ∷ (by 0 (OnObject (Create 2 1 23 0)) (0 ∷ 0 ∷ [])
     ∷ by 0 (OnObject (AddPassword 1 22 130)) (0 ∷ 0 ∷ [])
     ∷ writes 4 512
     ∷ writes 5 23

@@ -4,3 +4,4 @@ pub mod Nested
 pub mod Locks
 pub mod WholeLock
 pub mod Ends
+pub mod Accounts

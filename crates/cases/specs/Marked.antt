@@ -9,15 +9,15 @@ use Rattle.calls.specs.View.{Judging}
 use Rattle.calls.specs.Step.{Result, worldOf, answerOf}
 use Rattle.calls.specs.Boot.{boot}
 use Rattle.calls.specs.Laws.Booted.{boot-sound}
-use Rattle.cases.specs.Runs.{Exchange, by, answers, expected, answersBy, answers-are, map-same, by-search}
+use Rattle.cases.specs.Runs.{ample, Exchange, by, answers, expected, answersBy, answers-are, map-same, by-search}
 use Rattle.calls.specs.declared.Call.the-variants.{OnStore, OnObject, OnDomain}
 use Rattle.calls.specs.declared.Access.the-variants.{Read, Write, Lookup}
 use Rattle.calls.specs.declared.ObjectCall.the-variants.{Create, AddPassword, Register}
 use Rattle.calls.specs.declared.DomainCall.the-variants.{Remove, Get, Lock, PdxCall, PdxReturn}
 
--- the boot of the listing, on a store of zeros
+-- the boot of the listing, on a store of zeros, with ample accounts
 abbrev pub listingBoot : Result
-listingBoot = boot (replicate 8192 0) 0 (11 ∷ 12 ∷ 13 ∷ 14 ∷ [])
+listingBoot = boot (replicate 8192 0) 0 (ample (11 ∷ 12 ∷ 13 ∷ 14 ∷ []))
 
 -- the listing of "The call program" behind its boot
 abbrev pub listing : List Exchange
@@ -25,7 +25,7 @@ listing =
     by 0 (OnStore (Read 0)) (0 ∷ 15 ∷ [])
     ∷ by 1 (OnStore (Read 2048)) (0 ∷ 8207 ∷ [])
     ∷ by 0 (OnStore (Read 2048)) (7 ∷ 0 ∷ [])
-    ∷ by 0 (OnObject (Create 1 1 21)) (0 ∷ 0 ∷ [])
+    ∷ by 0 (OnObject (Create 1 1 21 0)) (0 ∷ 0 ∷ [])
     ∷ by 0 (OnStore (Read 64)) (7 ∷ 0 ∷ [])
     ∷ by 0 (OnStore (Write 2 256)) (0 ∷ 0 ∷ [])
     ∷ by 0 (OnStore (Write 3 21)) (0 ∷ 0 ∷ [])
@@ -45,7 +45,7 @@ mode130 third fifth =
 -- domain 1 registers its page 33, and domain 0 gets the capability
 abbrev pub registered : List Exchange
 registered =
-    by 1 (OnObject (Create 33 1 31)) (0 ∷ 0 ∷ [])
+    by 1 (OnObject (Create 33 1 31 0)) (0 ∷ 0 ∷ [])
     ∷ by 1 (OnStore (Write 2050 8448)) (0 ∷ 0 ∷ [])
     ∷ by 1 (OnStore (Write 2051 31)) (0 ∷ 0 ∷ [])
     ∷ by 1
@@ -77,7 +77,7 @@ by-computing runs p = answers-after runs ∙ by-search (λ j. computedAfter j ru
 abbrev pub cases : List (List Exchange)
 cases =
     (by 0 (OnStore (Read 8192)) (5 ∷ 0 ∷ []) ∷ by 0 (OnStore (Read 8191)) (7 ∷ 0 ∷ []) ∷ [])
-    ∷ (by 0 (OnObject (Create 31 2 9)) (9 ∷ 0 ∷ []) ∷ by 0 (OnObject (Create 31 1 9)) (0 ∷ 0 ∷ []) ∷ [])
+    ∷ (by 0 (OnObject (Create 31 2 9 0)) (9 ∷ 0 ∷ []) ∷ by 0 (OnObject (Create 31 1 9 0)) (0 ∷ 0 ∷ []) ∷ [])
     ∷ (by 0 (OnDomain (Lock 0)) (0 ∷ 0 ∷ []) ∷ by 0 (OnDomain (Remove 0)) (6 ∷ 0 ∷ []) ∷ [])
     ∷ (mode130 21 22 ++ by 0 (OnStore (Write 64 5)) (0 ∷ 0 ∷ []) ∷ [])
     ∷ (mode130 22 21 ++ by 0 (OnStore (Write 64 5)) (7 ∷ 0 ∷ []) ∷ by 0 (OnStore (Read 64)) (0 ∷ 0 ∷ []) ∷ [])

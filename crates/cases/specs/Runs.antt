@@ -2,12 +2,14 @@
 use Prim.Native.Nat.{ℕ}
 use mathlib.Core.Path.{_≡_, refl, ap, sym, subst}
 use mathlib.Core.Bool.{true}
-use mathlib.Core.List.{List, [], _∷_, map}
+use mathlib.Core.List.{List, [], _∷_, _++_, map}
 use Rattle.bounded.specs.Search.{first}
 use Rattle.bounded.specs.Every.{below}
+use Rattle.bounded.specs.Sum.{total}
 use Rattle.state.specs.Extent.{covers, liesIn, apart}
 use Rattle.state.specs.Lookup.{covering, based, objectCovering, objectBased, placeBased, freePlace, placeOf, ordinaryMode, modeOf, hasPassword}
 use Rattle.state.specs.Update.{insertSlot, removeSlot, lockSlot, mergeList, onlyList, saveDomain, restoreDomain, newObject, addPassword, dropPassword}
+use Rattle.state.specs.Pages.{estatePages, pagesOf, inSet}
 use Rattle.soundness.specs.Sound.{sound}
 use Rattle.clists.specs.Clist.{live, listEnd, untilEnd, clist, listAt}
 use Rattle.judge.specs.Search.{pairMode, verdictOf, pairVerdict, listVerdict, slotVerdict, frameVerdict, searched}
@@ -18,10 +20,14 @@ use Rattle.calls.specs.Arguments.{runFree, isEntry}
 use Rattle.calls.specs.Changes.{frameFields, registration, zeroed}
 use Rattle.calls.specs.Rules.{inRange, unlocked, early, view, late, checks, touched, changes}
 use Rattle.calls.specs.Step.{uncheckedBy, step, unchecked, worldOf, answerOf}
-use Rattle.calls.specs.Boot.{homeEstate, homeDomain, bootState, homePair, bootWords, homesOk, boot}
+use Rattle.calls.specs.Boot.{homeEstate, homeDomain, bootAccounts, bootState, homePair, bootWords, homesOk, limitsOk, setsOk, homePages, roomOk, planOk, boot}
 use Rattle.calls.specs.Laws.Unchecked.{sound-unchecked}
 use Rattle.calls.specs.Laws.Sound.{unchecked-sound}
 use Rattle.calls.specs.declared.Call.{Call}
+
+-- the numbers of a boot with limits of 128, sets of 15 and account 0 throughout (document 02, T-05)
+abbrev pub ample : List ℕ → List ℕ
+ample homes = homes ++ (128 ∷ 128 ∷ 128 ∷ 128 ∷ 0 ∷ 15 ∷ 0 ∷ 15 ∷ 0 ∷ 15 ∷ 0 ∷ 15 ∷ [])
 
 -- an exchange: a call by a domain, and the number and values that it must answer
 pub record Exchange : Type 0 where
@@ -47,7 +53,7 @@ after w (e ∷ es) = let r = step w (e .domain) (e .call) in after (worldOf r) e
 
 -- THE SAME WITHOUT CHECK 3, and by any judging: this is computed. Unfolding it unfolds all that it computes with
 unfoldable pub answersBy : Judging → World → List Exchange → List (List ℕ)
-unfolding touched first below covers liesIn apart covering based objectCovering objectBased placeBased freePlace placeOf ordinaryMode modeOf hasPassword insertSlot removeSlot lockSlot mergeList onlyList saveDomain restoreDomain newObject addPassword dropPassword live listEnd untilEnd clist listAt pairMode verdictOf pairVerdict listVerdict slotVerdict frameVerdict searched inRange unlocked early view runFree isEntry late checks frameFields registration changes zeroed uncheckedBy homeEstate homeDomain bootState homePair bootWords homesOk boot
+unfolding touched first below total estatePages pagesOf inSet covers liesIn apart covering based objectCovering objectBased placeBased freePlace placeOf ordinaryMode modeOf hasPassword insertSlot removeSlot lockSlot mergeList onlyList saveDomain restoreDomain newObject addPassword dropPassword live listEnd untilEnd clist listAt pairMode verdictOf pairVerdict listVerdict slotVerdict frameVerdict searched inRange unlocked early view runFree isEntry late checks frameFields registration changes zeroed uncheckedBy homeEstate homeDomain bootAccounts bootState homePair bootWords homesOk limitsOk setsOk homePages roomOk planOk boot
 answersBy judging w [] = []
 answersBy judging w (e ∷ es) = let r = uncheckedBy judging w (e .domain) (e .call) in answerOf r ∷ answersBy judging (worldOf r) es
 

@@ -28,7 +28,7 @@ wholeLockRuns =
     ∷ by 0 (adds 24 32) (5 ∷ 0 ∷ [])
     ∷ by 0 (OnDomain (Lock 0)) (0 ∷ 0 ∷ [])
     ∷ by 0 (OnDomain PdxReturn) (12 ∷ 0 ∷ [])
-    ∷ by 0 (OnObject (Create 2 1 9)) (0 ∷ 0 ∷ [])
+    ∷ by 0 (OnObject (Create 2 1 9 0)) (0 ∷ 0 ∷ [])
     ∷ by 0 (OnObject (DropPassword 1 22)) (0 ∷ 0 ∷ [])
     ∷ by 0 (OnObject (Delete 1)) (0 ∷ 0 ∷ [])
     ∷ [])

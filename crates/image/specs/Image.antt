@@ -17,7 +17,7 @@ use Rattle.soundness.specs.Sound.{sound}
 use Rattle.state.specs.declared.State.{State}
 use Rattle.image.specs.declared.Reading.{Reading}
 use Rattle.image.specs.Sizes.{stateSize}
-use Rattle.image.specs.Layout.{capability, password, entries, registration, passwords, object, objects, estate, estates, table, state}
+use Rattle.image.specs.Layout.{capability, password, entries, registration, passwords, object, objects, estate, estates, table, fourBytes, accounts, state}
 
 -- an image reads if it has the length, its bytes for yes or no are 1 or 0, and its state is sound
 unfoldable pub reading : List ℕ → Reading
@@ -34,6 +34,11 @@ written image s = cond (eqb (length image) stateSize) (state .put s) image
 pub table-ok : (bs : List ℕ) → table .ok bs ≡ true
 unfolding number byte capability password entries registration passwords object objects estate estates table
 table-ok bs = refl
+
+-- nor in the accounts
+pub accounts-ok : (bs : List ℕ) → accounts .ok bs ≡ true
+unfolding byte fourBytes accounts
+accounts-ok bs = refl
 
 -- WHAT IS WRITTEN FOR A SOUND STATE READS AS THAT STATE. `fits`: the numbers fit their types and the arrays are full, as in every value of the code
 pub reads-back : (s : State) → state .fits s → reading (state .put s) ≡ record { readable = sound s; state = s }

@@ -1,10 +1,13 @@
 // The state as a byte image of one fixed length, and back.
+use crate::accounts::accounts_at;
+use crate::accounts::put_accounts;
 use crate::frames::domains_at;
 use crate::frames::domains_ok;
 use crate::frames::put_domains;
 use crate::objects::put_table;
 use crate::objects::table_at;
 use crate::sizes::STATE;
+use crate::sizes::STATE_ACCOUNTS;
 use crate::sizes::STATE_DOMAINS;
 use soundness::sound;
 use state::State;
@@ -18,6 +21,7 @@ ghost use Rattle.image.specs.Sizes.{stateSize};
 ghost use Rattle.image.specs.Layout.{state};
 ghost use Rattle.image.specs.Image.{reading, written};
 
+mod accounts;
 mod frames;
 pub mod numbers;
 mod objects;
@@ -29,7 +33,7 @@ pub struct Reading {
     pub state: State,
 }
 
-// A state: the object table, then the four domains.
+// A state: the object table, the four domains and the accounts.
 fn state_at(s: &[u8], at: usize) -> State
     requires { ⌜ at + stateSize ≤ length (now s) ⌝ }
     ensures { λ r. ⌜ r ≡ state .get (drop at (now (s .entry))) ⌝ }
@@ -37,6 +41,7 @@ fn state_at(s: &[u8], at: usize) -> State
     State {
         table: table_at(s, at),
         domains: domains_at(s, at + STATE_DOMAINS),
+        accounts: accounts_at(s, at + STATE_ACCOUNTS),
     }
 }
 
@@ -56,6 +61,8 @@ fn put_state(s: &mut [u8], at: usize, v: State)
     put_table(s, at, table);
     let domains = v.domains;
     put_domains(s, at + STATE_DOMAINS, domains);
+    let accounts = v.accounts;
+    put_accounts(s, at + STATE_ACCOUNTS, accounts);
 }
 
 // Reads an image.

@@ -77,7 +77,7 @@ module _ (b k : ℕ) (l : Presented) (es : Entries) (d : ℕ) where
 -- A call does what it does with the surplus blanked.
 pub unchecked-blanked : (w : World) (d : ℕ) (c : Call) → unchecked w d (blanked c) ≡ unchecked w d c
 unchecked-blanked w d (OnStore c) = refl
-unchecked-blanked w d (OnObject (Create p n k)) = refl
+unchecked-blanked w d (OnObject (Create p n k a)) = refl
 unchecked-blanked w d (OnObject (Delete b)) = refl
 unchecked-blanked w d (OnObject (AddPassword b k m)) = refl
 unchecked-blanked w d (OnObject (DropPassword b k)) = refl

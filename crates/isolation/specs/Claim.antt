@@ -1,4 +1,4 @@
--- Demand 3: one claim about two whole runs, by document 01, "Two runs and a group".
+-- Demand 3: one claim about two whole runs, by document 01, "Two runs and a group", and document 02, T-05.
 use Prim.Native.Nat.{ℕ, _<_}
 use mathlib.Core.Path.{_≡_}
 use mathlib.Core.Bool.{true}
@@ -10,11 +10,11 @@ use Rattle.state.specs.declared.Frame.{Frame}
 use Rattle.state.specs.declared.Domain.{Domain}
 use Rattle.calls.specs.Answers.{numberOf}
 use Rattle.calls.specs.View.{World}
-use Rattle.calls.specs.Boot.{homeOf}
+use Rattle.calls.specs.Boot.{homeOf, setOf}
 use Rattle.calls.specs.Runs.{final}
 use Rattle.isolation.specs.Group.{Group, member, insidePage, insideAddress}
 use Rattle.isolation.specs.Runs.{Run, bootResult, startOf, answers, membersCalls}
-use Rattle.isolation.specs.Premises.{Premises}
+use Rattle.isolation.specs.Premises.{Premises, AccountsApart, SameAccounts}
 
 -- the same slots in use, in order, and the same locks
 pub record SameFrame (f f′ : Frame) : Type 0 where
@@ -36,11 +36,15 @@ pub record SameInside (G : Group) (w w′ : World) : Type 0 where
   pub objects : (base : ℕ) → insidePage G base ≡ true → SameObject (objectBased (w .state .table) base) (objectBased (w′ .state .table) base)
   pub domains : (d : ℕ) → member G d ≡ true → SameDomain (domainAt (w .state) d) (domainAt (w′ .state) d)
 
--- what is asked of two runs: both boots answered 0, the same members' home passwords, the same members' calls, and the premises in both
+-- what is asked of two runs: both boots answered 0, the same members' home passwords and accounts, in neither an account that members and
+-- outsiders may charge, the same members' calls, and the premises in both
 pub record Comparable (G : Group) (r r′ : Run) : Type 0 where
   pub booted : numberOf (bootResult r .outcome .answer) ≡ 0
   pub booted′ : numberOf (bootResult r′ .outcome .answer) ≡ 0
-  pub homes : (d : ℕ) → member G d ≡ true → homeOf (r .homes) d ≡ homeOf (r′ .homes) d
+  pub homes : (d : ℕ) → member G d ≡ true → homeOf (r .plan) d ≡ homeOf (r′ .plan) d
+  pub accounts : (d : ℕ) → member G d ≡ true → SameAccounts (r .plan) (r′ .plan) d
+  pub apart : AccountsApart G (setOf (r .plan))
+  pub apart′ : AccountsApart G (setOf (r′ .plan))
   pub calls : membersCalls G r ≡ membersCalls G r′
   pub premises : Premises G r
   pub premises′ : Premises G r′

@@ -1,6 +1,6 @@
 -- What demand 3 comes to for one domain, for the empty group, and for all four domains.
 use Prim.Native.Nat.{ℕ, _/_, _<_}
-use mathlib.Core.Path.{_≡_, refl, sym, ap, _∙_}
+use mathlib.Core.Path.{_≡_, refl, sym, ap, subst, _∙_}
 use mathlib.Core.Bool.{true, false, true≢false, and-true, and-false}
 use mathlib.Core.List.{List, [], _∷_}
 use mathlib.Core.Logic.{_⊎_, inl, inr, ⊎-elim}
@@ -8,10 +8,11 @@ use mathlib.Core.Option.{Option, none, some}
 use native.Mathlib.Omega.{arith}
 use lib.Dec.{ltb, eqb}
 use lib.ListN.{List·getD-eq-default, getD-replicate}
-use borrow.Author.Tests.{ltb-false, eqb-true, lt-ltb}
+use borrow.Author.Tests.{ltb-false, eqb-true, eqb-false, lt-ltb}
 use Rattle.bounded.specs.Bools.{and-right, and-no, or-unless, flag}
 use Rattle.state.specs.Places.{noPassword, noEstate, freeObject}
 use Rattle.state.specs.Lookup.{objectBased, placeOf, hasPassword}
+use Rattle.state.specs.Pages.{inSet}
 use Rattle.state.specs.Laws.Passwords.{Ordinary, has-parts}
 use Rattle.state.specs.Laws.Lookup.{based-none}
 use Rattle.soundness.specs.Sound.{sound}
@@ -22,7 +23,7 @@ use Rattle.calls.specs.View.{World}
 use Rattle.calls.specs.Rule.{Touch, touchesNothing, touchesWord, touchesObject, touchesSlots}
 use Rattle.calls.specs.Rules.{touched, presented, early, checks}
 use Rattle.calls.specs.Step.{worldOf, step}
-use Rattle.calls.specs.Boot.{homeOf}
+use Rattle.calls.specs.Boot.{homeOf, setOf}
 use Rattle.calls.specs.Runs.{Event, resultOf}
 use Rattle.calls.specs.Laws.Order.{done-hold}
 use Rattle.calls.specs.Laws.Booted.{boot-sound}
@@ -31,7 +32,7 @@ use Rattle.calls.specs.declared.Call.{Call}
 use Rattle.calls.specs.declared.Presented.{Presented}
 use Rattle.isolation.specs.Group.{Group, member}
 use Rattle.isolation.specs.Runs.{Run, bootResult, startOf, membersOnly, membersCalls}
-use Rattle.isolation.specs.Premises.{staysInside, HeldInside, touchesInside, changesInside}
+use Rattle.isolation.specs.Premises.{staysInside, HeldInside, touchesInside, changesInside, AccountsApart, SameAccounts}
 use Rattle.isolation.specs.Claim.{Isolated}
 use Rattle.isolation.specs.Members.{member-below}
 use Rattle.isolation.specs.Theorem.{isolation}
@@ -45,12 +46,31 @@ Booted r = numberOf (bootResult r .outcome .answer) ≡ 0
 abbrev pub CallsMeet : Group → Run → Type 0
 CallsMeet G r = CallsAlong G (startOf r) (r .events)
 
+-- a domain is booted alike in two runs: its home password, its home account and its set, and the limits of the accounts in the set
+pub record BootedAlike (r r′ : Run) (d : ℕ) : Type 0 where
+  pub home : homeOf (r .plan) d ≡ homeOf (r′ .plan) d
+  pub accounts : SameAccounts (r .plan) (r′ .plan) d
+
+-- no account may be charged from inside and from outside in a run
+abbrev pub Apart : Group → Run → Type 0
+Apart G r = AccountsApart G (setOf (r .plan))
+
 -- DEMAND 3 WITH NOTHING ASKED OF SLOTS: the premises on the calls are enough.
-pub isolation-by-calls : (G : Group) (r r′ : Run) → Booted r → Booted r′ → ((d : ℕ) → member G d ≡ true → homeOf (r .homes) d ≡ homeOf (r′ .homes) d)
-    → membersCalls G r ≡ membersCalls G r′ → CallsMeet G r → CallsMeet G r′ → Isolated G r r′
-isolation-by-calls G r r′ b b′ homes calls p p′ =
+pub isolation-by-calls : (G : Group) (r r′ : Run) → Booted r → Booted r′ → ((d : ℕ) → member G d ≡ true → BootedAlike r r′ d)
+    → Apart G r → Apart G r′ → membersCalls G r ≡ membersCalls G r′ → CallsMeet G r → CallsMeet G r′ → Isolated G r r′
+isolation-by-calls G r r′ b b′ alike apart apart′ calls p p′ =
     isolation G r r′
-    (record { booted = b; booted′ = b′; homes = homes; calls = calls; premises = slots-follow G r p; premises′ = slots-follow G r′ p′ })
+    (record {
+      booted = b;
+      booted′ = b′;
+      homes = λ d m. alike d m .home;
+      accounts = λ d m. alike d m .accounts;
+      apart = apart;
+      apart′ = apart′;
+      calls = calls;
+      premises = slots-follow G r p;
+      premises′ = slots-follow G r′ p′;
+    })
 
 -- THE GROUP OF ONE DOMAIN
 abbrev pub only : ℕ → Group
@@ -62,14 +82,26 @@ unfolding member
 only-member d l e =
     ⊎-elim (λ t. rw (lt-ltb e 4 (omega (arith, eqb-true d e t)))) (λ f. and-no (ltb e 4) f ∙ sym f) (flag (eqb d e))
 
--- WHAT A MODULE SEES DEPENDS ON ITS OWN CALLS: in two runs whose calls meet the premises, with the same home password and the same calls
--- of a domain, it gets the same answers and ends with the same words, objects, slots, locks and saved domains. Of its slots nothing is
--- asked.
-pub alone-same : (d : ℕ) (r r′ : Run) → Booted r → Booted r′ → homeOf (r .homes) d ≡ homeOf (r′ .homes) d
+-- no other domain may charge an account in the set of this one
+abbrev pub Unshared : Run → ℕ → Type 0
+Unshared r d = (e a : ℕ) → e < 4 → (d ≡ e → ⊥) → inSet (setOf (r .plan) d) a ≡ true → inSet (setOf (r .plan) e) a ≡ false
+
+only-apart : (d : ℕ) (r : Run) → Unshared r d → Apart (only d) r
+unfolding member
+only-apart d r h c e a m o l =
+    let q : d ≡ c = eqb-true d c (and-right (ltb c 4) (eqb d c) m) in
+    rw (← q) (h e a l (eqb-false d e (rw (lt-ltb e 4 l) at o)))
+
+-- WHAT A MODULE SEES DEPENDS ON ITS OWN CALLS: in two runs whose calls meet the premises, where a domain is booted alike and shares no
+-- account, with the same calls of that domain it gets the same answers and ends with the same words, objects, slots, locks and saved
+-- domains. Of its slots nothing is asked.
+pub alone-same : (d : ℕ) (r r′ : Run) → Booted r → Booted r′ → BootedAlike r r′ d → Unshared r d → Unshared r′ d
     → membersCalls (only d) r ≡ membersCalls (only d) r′ → CallsMeet (only d) r → CallsMeet (only d) r′ → Isolated (only d) r r′
 unfolding member
-alone-same d r r′ b b′ home =
-    isolation-by-calls (only d) r r′ b b′ (λ e m. let q : d ≡ e = eqb-true d e (and-right (ltb e 4) (eqb d e) m) in rw q at home)
+alone-same d r r′ b b′ alike own own′ =
+    isolation-by-calls (only d) r r′ b b′
+    (λ e m. let q : d ≡ e = eqb-true d e (and-right (ltb e 4) (eqb d e) m) in subst (BootedAlike r r′) q alike)
+    (only-apart d r own) (only-apart d r′ own′)
 
 -- THE EMPTY GROUP
 abbrev pub nobody : Group
@@ -108,7 +140,9 @@ nobody-meets (e ∷ es) w = (
 -- OF THE EMPTY GROUP NOTHING IS ASKED: any two runs do.
 pub nobody-same : (r r′ : Run) → Booted r → Booted r′ → Isolated nobody r r′
 nobody-same r r′ b b′ =
-    isolation-by-calls nobody r r′ b b′ (λ d m. absurd (true≢false (sym m ∙ nobody-member d))) (rw (nobody-calls (r .events), nobody-calls (r′ .events)))
+    isolation-by-calls nobody r r′ b b′ (λ d m. absurd (true≢false (sym m ∙ nobody-member d)))
+    (λ d e a m. absurd (true≢false (sym m ∙ nobody-member d))) (λ d e a m. absurd (true≢false (sym m ∙ nobody-member d)))
+    (rw (nobody-calls (r .events), nobody-calls (r′ .events)))
     (nobody-meets (r .events) (startOf r)) (nobody-meets (r′ .events) (startOf r′))
 
 -- THE GROUP OF ALL FOUR
@@ -161,11 +195,15 @@ everyone-meets (e ∷ es) w h = (
   everyone-meets es (worldOf (resultOf w e)) (step-sound w (e .domain) (e .call) h),
 )
 
--- A RUN IS DETERMINED BY ITS HOME PASSWORDS AND THE CALLS OF THE FOUR DOMAINS: nothing further is asked. The store before the boot, who
--- boots, and the calls by domain numbers above 3 do not matter.
-pub everyone-same : (r r′ : Run) → Booted r → Booted r′ → ((d : ℕ) → d < 4 → homeOf (r .homes) d ≡ homeOf (r′ .homes) d)
+-- every domain is inside, so no account may be charged from outside
+everyone-apart : (r : Run) → Apart everyone r
+everyone-apart r d e a m o l = absurd (true≢false (sym (lt-ltb e 4 l) ∙ sym (everyone-member e) ∙ o))
+
+-- A RUN IS DETERMINED BY WHAT THE FOUR DOMAINS ARE BOOTED WITH AND BY THEIR CALLS: nothing further is asked. The store before the boot, who
+-- boots, the limits of accounts that nobody may charge, and the calls by domain numbers above 3 do not matter.
+pub everyone-same : (r r′ : Run) → Booted r → Booted r′ → ((d : ℕ) → d < 4 → BootedAlike r r′ d)
     → membersCalls everyone r ≡ membersCalls everyone r′ → Isolated everyone r r′
-everyone-same r r′ b b′ homes calls =
-    isolation-by-calls everyone r r′ b b′ (λ d m. homes d (member-below everyone d m)) calls
-    (everyone-meets (r .events) (startOf r) (boot-sound (r .store) (r .booter) (r .homes)))
-    (everyone-meets (r′ .events) (startOf r′) (boot-sound (r′ .store) (r′ .booter) (r′ .homes)))
+everyone-same r r′ b b′ alike calls =
+    isolation-by-calls everyone r r′ b b′ (λ d m. alike d (member-below everyone d m)) (everyone-apart r) (everyone-apart r′) calls
+    (everyone-meets (r .events) (startOf r) (boot-sound (r .store) (r .booter) (r .plan)))
+    (everyone-meets (r′ .events) (startOf r′) (boot-sound (r′ .store) (r′ .booter) (r′ .plan)))

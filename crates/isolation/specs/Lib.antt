@@ -4,7 +4,10 @@ pub mod Premises
 pub mod Claim
 pub mod Members
 pub mod Mask
+pub mod Accounts
 pub mod Part
+pub mod Kept
+pub mod Charged
 pub mod Seen
 pub mod Induction
 pub mod Blanked

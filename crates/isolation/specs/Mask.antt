@@ -31,6 +31,12 @@ cond-agree : {A : Type 0} (b : Bool) (x y z : A) → (b ≡ true → x ≡ y) �
 cond-agree true x y z h = h refl
 cond-agree false x y z h = refl
 
+-- Tests that agree keep the same.
+pub mask-keeps : {A : Type 0} (keeps keeps′ : ℕ → Bool) (z : A) (l : List A) → ((i : ℕ) → keeps i ≡ keeps′ i) → mask keeps z l ≡ mask keeps′ z l
+unfolding mask
+mask-keeps keeps keeps′ z [] h = refl
+mask-keeps keeps keeps′ z (a ∷ l) h = rw (h 0, mask-keeps (λ i. keeps (suc i)) (λ i. keeps′ (suc i)) z l (λ i. h (suc i)))
+
 -- The part has as many places.
 pub mask-length : {A : Type 0} (keeps : ℕ → Bool) (z : A) (l : List A) → length (mask keeps z l) ≡ length l
 unfolding mask

@@ -1,18 +1,24 @@
--- The group's part of a world: the outsiders' estates, domains and words blanked. What a change does to it.
+-- The group's part of a world: the outsiders' estates, domains, accounts and words blanked. What a change does to it.
 use Prim.Native.Nat.{ℕ, _+_, _/_, _<_, _≤_}
 use mathlib.Core.Path.{_≡_, refl, sym, ap, _∙_}
 use mathlib.Core.Bool.{true, false}
 use mathlib.Core.List.{List, [], _∷_}
+use mathlib.Core.Logic.{_⊎_, inl, inr}
 use lib.ListN.{length, getD}
-use Rattle.state.specs.Places.{noEstate, noDomain, freeObject, estateAt, domainAt}
+use Rattle.bounded.specs.Bools.{flag}
+use Rattle.bounded.specs.Sum.{total-same, total-none}
+use Rattle.state.specs.Places.{noEstate, noDomain, freeObject, objectAt, estateAt, domainAt}
 use Rattle.state.specs.Lookup.{objectCovering, objectBased}
+use Rattle.state.specs.Pages.{pagesOn, estatePages, pagesOf}
 use Rattle.state.specs.Laws.Lookup.{based-none, covering-none}
+use Rattle.state.specs.Laws.Pages.{none-on}
 use Rattle.state.specs.declared.Table.{Table}
 use Rattle.state.specs.declared.Domain.{Domain}
 use Rattle.calls.specs.View.{World}
 use Rattle.calls.specs.Changes.{Change, word, zeros, estate, domain, applyOne, applyAll}
 use Rattle.isolation.specs.Group.{Group, member, insidePage, insideAddress}
 use Rattle.isolation.specs.Mask.{mask, mask-length, mask-in, mask-out, mask-mask, mask-set, mask-set-out, mask-zeroed, mask-zeroed-out}
+use Rattle.isolation.specs.Accounts.{accountsPart, accounts-part}
 
 -- the members' estates
 unfoldable pub tablePart : Group → Table → Table
@@ -29,7 +35,19 @@ wordsPart G words = mask (insideAddress G) 0 words
 -- the group's part of a world
 abbrev pub part : Group → World → World
 part G w =
-    record { state = record { table = tablePart G (w .state .table); domains = domainsPart G (w .state .domains) }; words = wordsPart G (w .words) }
+    record {
+      state = record {
+        table = tablePart G (w .state .table);
+        domains = domainsPart G (w .state .domains);
+        accounts = accountsPart G (w .state .accounts);
+      };
+      words = wordsPart G (w .words);
+    }
+
+-- an estate without objects has no pages
+no-pages : (a : ℕ) → estatePages a noEstate ≡ 0
+unfolding estatePages
+no-pages a = total-none 8 (λ k. pagesOn a (objectAt noEstate k)) (λ k l. none-on a (objectAt noEstate k) refl)
 
 module _ (G : Group) where
   -- A member's estate is in the part.
@@ -46,6 +64,15 @@ module _ (G : Group) where
   pub domain-in : (w : World) (d : ℕ) → member G d ≡ true → domainAt (part G w .state) d ≡ domainAt (w .state) d
   unfolding domainsPart
   domain-in w d h = mask-in (member G) noDomain (w .state .domains) d h
+
+  -- The figure of an account is that of the part, where no outsider's estate has pages on it.
+  pub pages-in : (t : Table) (a : ℕ) → ((d : ℕ) → member G d ≡ false → d < 4 → estatePages a (estateAt t d) ≡ 0) → pagesOf (tablePart G t) a ≡ pagesOf t a
+  unfolding pagesOf
+  pages-in t a h = total-same 4 _ _ (λ d l. each d l (flag (member G d)))
+    where
+      each : (d : ℕ) → d < 4 → (member G d ≡ true) ⊎ (member G d ≡ false) → estatePages a (estateAt (tablePart G t) d) ≡ estatePages a (estateAt t d)
+      each d l (inl m) = rw (estate-in t d m)
+      each d l (inr o) = rw (estate-out t d o) (no-pages a ∙ sym (h d o l))
 
   -- A word at an inside address is in the part.
   pub word-in : (words : List ℕ) (a : ℕ) → insideAddress G a ≡ true → getD (wordsPart G words) a 0 ≡ getD words a 0
@@ -80,15 +107,15 @@ module _ (G : Group) where
   -- The part of the part is the part.
   pub part-part : (w : World) → part G (part G w) ≡ part G w
   unfolding tablePart domainsPart wordsPart
-  part-part w = simp mask-mask
+  part-part w = simp (mask-mask, accounts-part)
 
   -- a change shows in the part as if it were made to the part alone
   one-in : (c : Change) (w : World) → part G (applyOne c (part G w)) ≡ part G (applyOne c w)
   unfolding tablePart domainsPart wordsPart
-  one-in (word a x) w = simp (mask-mask, mask-set)
-  one-in (zeros a n) w = simp (mask-mask, mask-zeroed)
-  one-in (estate e x) w = simp (mask-mask, mask-set)
-  one-in (domain d m) w = simp (mask-mask, mask-set)
+  one-in (word a x) w = simp (mask-mask, mask-set, accounts-part)
+  one-in (zeros a n) w = simp (mask-mask, mask-zeroed, accounts-part)
+  one-in (estate e x) w = simp (mask-mask, mask-set, accounts-part)
+  one-in (domain d m) w = simp (mask-mask, mask-set, accounts-part)
 
   -- Worlds with the same part have the same part after the same changes.
   pub all-in : (cs : List Change) (w w′ : World) → part G w ≡ part G w′ → part G (applyAll cs w) ≡ part G (applyAll cs w′)

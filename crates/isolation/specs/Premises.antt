@@ -1,4 +1,4 @@
--- The premises of demand 3: document 01, "Two runs and a group".
+-- The premises of demand 3: document 01, "Two runs and a group", and of the accounts document 02, T-05.
 use Prim.Native.Nat.{ℕ, _/_, _<_}
 use mathlib.Core.Path.{_≡_}
 use mathlib.Core.Bool.{Bool, true, false, not, _||_}
@@ -6,6 +6,7 @@ use mathlib.Core.List.{List, [], _∷_}
 use mathlib.Core.Option.{Option, none, some}
 use Rattle.state.specs.Places.{slotAt, savedAt, domainAt}
 use Rattle.state.specs.Lookup.{objectBased, hasPassword}
+use Rattle.state.specs.Pages.{inSet}
 use Rattle.state.specs.declared.Table.{Table}
 use Rattle.state.specs.declared.Frame.{Frame}
 use Rattle.judge.specs.Pairs.{pairsAt, firstWord, secondWord}
@@ -14,6 +15,7 @@ use Rattle.calls.specs.View.{Want, nothing, rights, World, firstFailing}
 use Rattle.calls.specs.Rule.{Touch, touchesNothing, touchesWord, touchesObject, touchesSlots}
 use Rattle.calls.specs.Rules.{touched, wanted, presented, early}
 use Rattle.calls.specs.Step.{worldOf}
+use Rattle.calls.specs.Boot.{limitOf, accountOf, setOf}
 use Rattle.calls.specs.Runs.{Event, resultOf}
 use Rattle.calls.specs.declared.Call.{Call}
 use Rattle.calls.specs.declared.Presented.{Presented}
@@ -85,3 +87,13 @@ Along G w (e ∷ es) = StatePremise G w × (CallPremise G w e × Along G (worldO
 
 abbrev pub Premises : Group → Run → Type 0
 Premises G r = Along G (startOf r) (r .events)
+
+-- document 02, T-05: by the sets that a boot gave, no account may be charged by a member and by an outsider; a number above 3 was given no set
+abbrev pub AccountsApart : Group → (ℕ → ℕ) → Type 0
+AccountsApart G sets = (d e a : ℕ) → member G d ≡ true → member G e ≡ false → e < 4 → inSet (sets d) a ≡ true → inSet (sets e) a ≡ false
+
+-- document 02, T-05: two boots gave a domain the same home account and the same set, and the accounts in the set the same limits
+pub record SameAccounts (plan plan′ : List ℕ) (d : ℕ) : Type 0 where
+  pub home : accountOf plan d ≡ accountOf plan′ d
+  pub set : setOf plan d ≡ setOf plan′ d
+  pub limit : (a : ℕ) → inSet (setOf plan d) a ≡ true → limitOf plan a ≡ limitOf plan′ a

@@ -20,11 +20,11 @@ use Rattle.isolation.specs.Group.{Group, member}
 pub record Run : Type 0 where
   pub store : List ℕ
   pub booter : ℕ
-  pub homes : List ℕ
+  pub plan : List ℕ
   pub events : List Event
 
 abbrev pub bootResult : Run → Result
-bootResult r = boot (r .store) (r .booter) (r .homes)
+bootResult r = boot (r .store) (r .booter) (r .plan)
 
 abbrev pub startOf : Run → World
 startOf r = worldOf (bootResult r)
@@ -49,7 +49,7 @@ countedEntries es =
     record { count = es .count; first = countedEntry es 0; second = countedEntry es 1; third = countedEntry es 2; fourth = countedEntry es 3 }
 
 abbrev pub bare : ObjectCall → ObjectCall
-bare (Create p n k) = Create p n k
+bare (Create p n k a) = Create p n k a
 bare (Delete b) = Delete b
 bare (AddPassword b k m) = AddPassword b k m
 bare (DropPassword b k) = DropPassword b k

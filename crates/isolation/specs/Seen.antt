@@ -11,12 +11,14 @@ use Rattle.bounded.specs.Bools.{flag, unless, same-or-not}
 use Rattle.state.specs.Places.{freeObject, slotAt, domainAt}
 use Rattle.state.specs.Extent.{free}
 use Rattle.state.specs.Lookup.{objectBased, hasPassword}
+use Rattle.state.specs.Pages.{mayCharge}
 use Rattle.state.specs.Laws.Lookup.{base-standing, based-base}
 use Rattle.soundness.specs.Sound.{sound}
 use Rattle.soundness.specs.Laws.Found.{based-answered, covering-answered, covering-based}
 use Rattle.state.specs.declared.Capability.{Capability}
 use Rattle.state.specs.declared.Table.{Table}
 use Rattle.state.specs.declared.Frame.{Frame}
+use Rattle.state.specs.declared.Accounts.{Accounts}
 use Rattle.clists.specs.Clist.{named, live, runWords, listAt}
 use Rattle.judge.specs.Search.{targeted}
 use Rattle.judge.specs.Judged.{judged}
@@ -28,13 +30,15 @@ use Rattle.judge.specs.declared.Target.{Target}
 use Rattle.judge.specs.declared.Target.the-variants.{Address, Base}
 use Rattle.judge.specs.declared.Judgement.{Judgement}
 use Rattle.judge.specs.declared.Judgement.the-variants.{Granted, Refused}
-use Rattle.calls.specs.View.{Want, nothing, rights, World, firstFailing, pageOf, foundBy, search, passes}
-use Rattle.calls.specs.Rules.{wanted, presented, early, view}
+use Rattle.calls.specs.View.{Want, nothing, rights, Charge, World, firstFailing, pageOf, foundBy, search, passes, permitted, withinLimit}
+use Rattle.calls.specs.Rules.{wanted, presented, charged, early, view}
 use Rattle.calls.specs.Runs.{Event}
 use Rattle.calls.specs.declared.Presented.{Presented}
 use Rattle.isolation.specs.Group.{Group, member, insidePage}
 use Rattle.isolation.specs.Premises.{staysInside, HeldInside, FrameInside, ListsInside, wants, MemberCall}
-use Rattle.isolation.specs.Part.{tablePart, wordsPart, part, estate-in, domain-in, word-in, words-length, based-in, covering-in, based-out, covering-out}
+use Rattle.isolation.specs.Accounts.{accountsPart, member-inside, charge-in, limit-in}
+use Rattle.isolation.specs.Part.{tablePart, wordsPart, part, estate-in, domain-in, pages-in, word-in, words-length, based-in, covering-in, based-out, covering-out}
+use Rattle.isolation.specs.Charged.{ChargedApart, outside-none}
 
 -- a capability that stays inside shows no password of the object at an outside page
 not-held : (G : Group) (t : Table) (page password : ℕ) → staysInside G t page password ≡ true → insidePage G page ≡ false
@@ -150,15 +154,40 @@ module _ (G : Group) (w : World) (ok : sound (w .state) ≡ true) where
   presented-in none k = refl
   presented-in (some l) k = live-in G t (record { page = l .page; password = l .password }) k
 
+  -- the accounts, whole and in the part
+  abbrev x : Accounts
+  x = w .state .accounts
+
+  abbrev x′ : Accounts
+  x′ = accountsPart G x
+
+  -- a member may charge the same accounts in the part
+  permits-in : (d : ℕ) → member G d ≡ true → (c : Option Charge) → permitted x′ d c ≡ permitted x d c
+  permits-in d m none = refl
+  permits-in d m (some c) = charge-in G x d (c .account) m
+
+  -- and finds the same figure and limit, where no object outside is on such an account
+  fits-in : ChargedApart G (w .state) → (d : ℕ) → member G d ≡ true → (c : Option Charge) → withinLimit t′ x′ d c ≡ withinLimit t x d c
+  fits-in i d m none = refl
+  fits-in i d m (some c) = go (flag (mayCharge x d (c .account)))
+    where
+      go : (mayCharge x d (c .account) ≡ true) ⊎ (mayCharge x d (c .account) ≡ false) → withinLimit t′ x′ d (some c) ≡ withinLimit t x d (some c)
+      go (inl p) =
+          let inside = member-inside G x d (c .account) m p in
+          rw (charge-in G x d (c .account) m, pages-in G t (c .account) (outside-none G (w .state) i (c .account) inside), limit-in G x (c .account) inside)
+      go (inr f) = rw (charge-in G x d (c .account) m, f)
+
   -- A MEMBER'S CALL THAT GETS AS FAR AS JUDGING SEES THE SAME IN THE PART as in the whole world, under the premises.
   pub view-in : (e : Event) → member G (e .domain) ≡ true → FrameInside G (w .state .table) (domainAt (w .state) (e .domain) .active)
-      → MemberCall G w e → firstFailing (early (e .domain) (e .call) (domainAt (w .state) (e .domain) .active)) ≡ none
+      → MemberCall G w e → ChargedApart G (w .state) → firstFailing (early (e .domain) (e .call) (domainAt (w .state) (e .domain) .active)) ≡ none
       → view judged (part G w) (e .domain) (e .call) ≡ view judged w (e .domain) (e .call)
   unfolding view
-  view-in e m k call p =
+  view-in e m k call i p =
       rw (
         domain-in G w (e .domain) m,
         estate-in G t (e .domain) m,
         presented-in (presented (e .call)) (call .held),
+        permits-in (e .domain) m (charged (e .call)),
+        fits-in i (e .domain) m (charged (e .call)),
         search-in (domainAt (w .state) (e .domain) .active) (wanted (e .call)) k (λ a. call .lists (record { reached = p; asks = a })),
       )

@@ -39,4 +39,4 @@ module _ (G : Group) where
 
   -- THE PREMISE ON SLOTS FOLLOWS: where the calls of a run meet theirs, every state meets its own
   pub slots-follow : (r : Run) → CallsAlong (startOf r) (r .events) → Premises G r
-  slots-follow r p = along-in (startOf r) (r .events) (boot-sound (r .store) (r .booter) (r .homes)) (boot-in G (r .store) (r .booter) (r .homes)) p
+  slots-follow r p = along-in (startOf r) (r .events) (boot-sound (r .store) (r .booter) (r .plan)) (boot-in G (r .store) (r .booter) (r .plan)) p

@@ -34,14 +34,16 @@ use Rattle.isolation.specs.Group.{Group, member}
 use Rattle.isolation.specs.Runs.{blanked, blankedEvent}
 use Rattle.isolation.specs.Premises.{changesInside, OutsiderCall, StatePremise, CallPremise}
 use Rattle.isolation.specs.Part.{part, domain-in, words-length, part-part, all-in, AllOutside, all-out}
+use Rattle.isolation.specs.Charged.{ChargedApart, step-apart}
 use Rattle.isolation.specs.Seen.{view-in}
 use Rattle.isolation.specs.Blanked.{unchecked-blanked}
 use Rattle.isolation.specs.Induction.{Machine, SameAlone, Parted}
 
 -- what holds in every world of a run
-pub record Good (w : World) : Type 0 where
+pub record Good (G : Group) (w : World) : Type 0 where
   pub well : sound (w .state) ≡ true
   pub long : length (w .words) ≡ 8192
+  pub charged : ChargedApart G (w .state)
 
 -- what is asked of a call in the world that it finds
 pub record Asked (G : Group) (w : World) (e : Event) : Type 0 where
@@ -61,7 +63,7 @@ lone G =
     }
 
 -- a good world passes check 3
-pub step-good : (w : World) (d : ℕ) (c : Call) → Good w → step w d c ≡ unchecked w d c
+pub step-good : {G : Group} (w : World) (d : ℕ) (c : Call) → Good G w → step w d c ≡ unchecked w d c
 step-good w d c g = sound-unchecked w d c (g .well)
 
 module _ (G : Group) (w : World) (d : ℕ) (c : Call) (v : View) where
@@ -88,7 +90,7 @@ refused-alike p d c u v why true = refl
 refused-alike p d c u v why false = refl
 
 -- a member's call, in the part, comes to what its view in the whole world says
-module _ (G : Group) (w : World) (e : Event) (g : Good w) (a : Asked G w e) (m : member G (e .domain) ≡ true) where
+module _ (G : Group) (w : World) (e : Event) (g : Good G w) (a : Asked G w e) (m : member G (e .domain) ≡ true) where
   abbrev d : ℕ
   d = e .domain
 
@@ -104,7 +106,7 @@ module _ (G : Group) (w : World) (e : Event) (g : Good w) (a : Asked G w e) (m :
   -- where it gets as far as judging, it sees the same
   reached-alike : firstFailing (early d c (domainAt (w .state) d .active)) ≡ none → unchecked (part G w) d c ≡ concluded first (part G w) d c v
   unfolding uncheckedBy
-  reached-alike p = rw (view-in G w (g .well) e m (a .state .members d m .slots) (a .call .of-member m) p, words-length G (w .words))
+  reached-alike p = rw (view-in G w (g .well) e m (a .state .members d m .slots) (a .call .of-member m) (g .charged) p, words-length G (w .words))
 
   -- where a check before that fails, it fails in both
   stopped-alike : (r : Refusal) → firstFailing (early d c (domainAt (w .state) d .active)) ≡ some r → unchecked (part G w) d c ≡ concluded first (part G w) d c v
@@ -134,9 +136,9 @@ module _ (G : Group) (w : World) (e : Event) (g : Good w) (a : Asked G w e) (m :
       }
 
 -- a new object lies in the caller's estate
-new-lies : (a n k d : ℕ) (b : Bool) → liesIn (newObject a n k) d && b ≡ true → (32 * d ≤ a) × (a + n ≤ 32 * d + 32)
+new-lies : (a n k u d : ℕ) (b : Bool) → liesIn (newObject a n k u) d && b ≡ true → (32 * d ≤ a) × (a + n ≤ 32 * d + 32)
 unfolding liesIn newObject
-new-lies a n k d b h =
+new-lies a n k u d b h =
     let lies = and-left _ b h in
     (leb-true _ _ (and-left _ _ lies), leb-true _ _ (and-right (leb (32 * d) a) _ lies))
 
@@ -148,8 +150,8 @@ changes-out G w d (OnStore (Read a)) o h p = tt
 changes-out G w d (OnStore (Write a x)) o h p = (h, tt)
 changes-out G w d (OnStore (Execute a)) o h p = tt
 changes-out G w d (OnStore (Lookup a r)) o h p = tt
-changes-out G w d (OnObject (Create a n k)) o h p =
-    let (from, to) = new-lies a n k d _ (p .rest .0) in
+changes-out G w d (OnObject (Create a n k u)) o h p =
+    let (from, to) = new-lies a n k u d _ (p .rest .0) in
     (o, ((omega (arith, p .domain), λ i l m. let own : i / 64 / 32 ≡ d = omega arith in rw own o), tt))
 changes-out G w d (OnObject (Delete b)) o h p = (h, tt)
 changes-out G w d (OnObject (AddPassword b k m)) o h p = (h, tt)
@@ -174,10 +176,15 @@ step-out G w e o call = ⊎-elim (λ r. ap (λ x. part G (worldOf x)) (r .1)) (�
         (changes-out G w (e .domain) (e .call) o (call .granted (rw q refl)) p))
 
 -- THE MONITOR KEEPS THE LAWS that the induction over a run asks for.
-pub parted : (G : Group) → Parted monitor (lone G) (part G) blankedEvent (λ e. member G (e .domain)) Good (Asked G)
+pub parted : (G : Group) → Parted monitor (lone G) (part G) blankedEvent (λ e. member G (e .domain)) (Good G) (Asked G)
 parted G =
     record {
-      stays-good = λ w e g a. record { well = step-sound w (e .domain) (e .call) (g .well); long = words-kept w (e .domain) (e .call) (g .long) };
+      stays-good = λ w e g a.
+          record {
+            well = step-sound w (e .domain) (e .call) (g .well);
+            long = words-kept w (e .domain) (e .call) (g .long);
+            charged = step-apart G w (e .domain) (g .charged) (e .call);
+          };
       by-member = step-in G;
       by-outsider = λ w e g a o. step-out G w e o (a .call .of-outsider o);
     }

@@ -71,8 +71,8 @@ same-part G w w′ e =
 pub isolation : Isolation
 isolation G r r′ h =
     let a =
-    runs-alike (parted G) (startOf r) (startOf r′) (r .events) (r′ .events) (start-good r (h .booted)) (start-good r′ (h .booted′))
-    (start-same G r r′ (h .booted) (h .booted′) (h .homes))
+    runs-alike (parted G) (startOf r) (startOf r′) (r .events) (r′ .events) (start-good G r (h .booted) (h .apart))
+    (start-good G r′ (h .booted′) (h .apart′)) (start-same G r r′ (h .booted) (h .booted′) (h .homes) (h .accounts))
     (rw (picked-are G (r .events), picked-are G (r′ .events)) (h .calls))
     (asked G (r .events) (startOf r) (h .premises)) (asked G (r′ .events) (startOf r′) (h .premises′)) in
     record {

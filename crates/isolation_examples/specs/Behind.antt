@@ -32,7 +32,7 @@ membersPart =
 
 -- in one run the outsider creates that page, with that password
 abbrev pub behind : Told
-behind = told (by 0 (OnObject (Create 1 1 21)) done ∷ membersPart)
+behind = told (by 0 (OnObject (Create 1 1 21 0)) done ∷ membersPart)
 
 abbrev pub behind′ : Told
 behind′ = told membersPart

@@ -48,7 +48,7 @@ eachMember G test = below 4 (λ d. not (member G d) || test d)
 unfoldable pub wordsTest : Group → World → World → Bool
 wordsTest G w w′ = eachMember G (λ d. sameFor 2048 (drop (2048 * d) (w .words)) (drop (2048 * d) (w′ .words)))
 
--- the same object: base, page count, passwords with their modes, registration
+-- the same object: base, page count, passwords with their modes, registration, account
 unfoldable pub modesTest : Object → Object → Object → Bool
 modesTest p o o′ = below 4 (λ k. eqb (ordinaryMode o (passwordAt p k .word)) (ordinaryMode o′ (passwordAt p k .word)))
 
@@ -70,6 +70,7 @@ objectTest o o′ =
     && modesTest o o o′
     && modesTest o′ o o′
     && registrationTest (o .registration) (o′ .registration)
+    && eqb (o .account) (o′ .account)
 
 unfoldable pub objectsTest : Group → World → World → Bool
 objectsTest G w w′ =
@@ -158,8 +159,9 @@ unfolding objectTest modesTest
 object-same o o′ s =
     and-both
     (and-both
+    (and-both
     (and-both (and-both (eq-eqb _ _ (s .base)) (eq-eqb _ _ (s .pages))) (below-all 4 _ (λ k l. eq-eqb _ _ (s .modes _))))
-    (below-all 4 _ (λ k l. eq-eqb _ _ (s .modes _)))) (registration-same _ _ (s .registration))
+    (below-all 4 _ (λ k l. eq-eqb _ _ (s .modes _)))) (registration-same _ _ (s .registration))) (eq-eqb _ _ (s .account))
 
 frame-same : (f f′ : Frame) → SameFrame f f′ → sameFrameTest f f′ ≡ true
 unfolding sameFrameTest

@@ -1,7 +1,7 @@
 -- A premise's test that is true gives the premise, and what a run shows is what the claim speaks of.
 use Prim.Native.Nat.{ℕ}
 use mathlib.Core.Path.{_≡_, refl, sym, ap, _∙_}
-use mathlib.Core.Bool.{Bool, true, false, not, true≢false}
+use mathlib.Core.Bool.{Bool, true, false, not, _&&_, true≢false}
 use mathlib.Core.List.{List, [], _∷_}
 use mathlib.Core.Option.{Option, none, some}
 use lib.Dec.{eqb}
@@ -11,23 +11,26 @@ use Rattle.bounded.specs.Every.{below-at}
 use Rattle.state.specs.Places.{domainAt}
 use Rattle.state.specs.declared.Table.{Table}
 use Rattle.state.specs.declared.Frame.{Frame}
+use Rattle.state.specs.Pages.{inSet}
 use Rattle.soundness.specs.Sound.{sound}
+use Rattle.soundness.specs.Laws.Tests.{all3}
 use Rattle.judge.specs.Judged.{judged}
 use Rattle.calls.specs.Answers.{numberOf}
 use Rattle.calls.specs.View.{World}
 use Rattle.calls.specs.Step.{unchecked, worldOf}
-use Rattle.calls.specs.Boot.{homeOf}
+use Rattle.calls.specs.Boot.{homeOf, setOf}
 use Rattle.calls.specs.Runs.{Event, resultOf, final}
 use Rattle.calls.specs.Laws.Unchecked.{sound-unchecked}
 use Rattle.calls.specs.Laws.Sound.{unchecked-sound}
+use Rattle.calls.specs.Laws.Plan.{in-set-account}
 use Rattle.calls.specs.Laws.Booted.{boot-sound}
 use Rattle.calls.specs.declared.Presented.{Presented}
 use Rattle.isolation.specs.Members.{member-below}
 use Rattle.isolation.specs.Group.{Group, member}
 use Rattle.isolation.specs.Runs.{Run, startOf, answers, membersCalls}
-use Rattle.isolation.specs.Premises.{HeldInside, FrameInside, SlotsInside, ListsInside, Judges, OutsiderCall, StatePremise, CallPremise, Along}
+use Rattle.isolation.specs.Premises.{HeldInside, FrameInside, SlotsInside, ListsInside, Judges, OutsiderCall, StatePremise, CallPremise, Along, AccountsApart, SameAccounts}
 use Rattle.isolation.specs.Claim.{Comparable}
-use Rattle.isolation_examples.specs.Tests.{frameTest, slotsTest, stateTest, heldTest, pairsTest, listsTest, judgesTest, listsWhen, grantedTest, RunTests, both, callTests, traceBy, Tests, homesTest, bootTest, traceOf, testsBy, allTrue}
+use Rattle.isolation_examples.specs.Tests.{frameTest, slotsTest, stateTest, heldTest, pairsTest, listsTest, judgesTest, listsWhen, grantedTest, RunTests, both, callTests, traceBy, Tests, homesTest, accountsTest, apartTest, bootTest, traceOf, testsBy, allTrue}
 
 -- the slots of a frame, of a domain and of each member
 frame-holds : (G : Group) (t : Table) (f : Frame) → frameTest G t f ≡ true → FrameInside G t f
@@ -145,14 +148,33 @@ trace-last G w h [] = refl
 trace-last G w h (e ∷ es) =
     rw (sound-unchecked w (e .domain) (e .call) h) (trace-last G _ (unchecked-sound w (e .domain) (e .call) h) es)
 
-homes-hold : (G : Group) (r r′ : Run) → homesTest G r r′ ≡ true → (d : ℕ) → member G d ≡ true → homeOf (r .homes) d ≡ homeOf (r′ .homes) d
+homes-hold : (G : Group) (r r′ : Run) → homesTest G r r′ ≡ true → (d : ℕ) → member G d ≡ true → homeOf (r .plan) d ≡ homeOf (r′ .plan) d
 unfolding homesTest
 homes-hold G r r′ h d m = eqb-true _ _ (unless (not (member G d)) _ (below-at 4 _ h d (member-below G d m)) (rw m))
+
+accounts-hold : (plan plan′ : List ℕ) (d : ℕ) → accountsTest plan plan′ d ≡ true → SameAccounts plan plan′ d
+unfolding accountsTest
+accounts-hold plan plan′ d h =
+    let (home, set, limit) = all3 _ _ _ h in
+    record {
+      home = eqb-true _ _ home;
+      set = eqb-true _ _ set;
+      limit = λ a c. eqb-true _ _ (unless (not (inSet (setOf plan d) a)) _ (below-at 4 _ limit a (in-set-account (setOf plan d) a c)) (rw c));
+    }
+
+apart-holds : (G : Group) (plan : List ℕ) → apartTest G plan ≡ true → AccountsApart G (setOf plan)
+unfolding apartTest
+apart-holds G plan h d e a m o l c =
+    let own = unless (not (member G d)) _ (below-at 4 _ h d (member-below G d m)) (rw m) in
+    let both : inSet (setOf plan d) a && inSet (setOf plan e) a ≡ false =
+    not-true _ (below-at 4 _ (unless (member G e) _ (below-at 4 _ own e l) o) a (in-set-account (setOf plan d) a c)) in
+    rw c at both
 
 -- two runs whose tests are all true, with the same members' calls, are comparable
 pub tests-hold : (G : Group) (r r′ : Run) → testsBy judged G r r′ ≡ allTrue → membersCalls G r ≡ membersCalls G r′ → Comparable G r r′
 tests-hold G r r′ h c =
     let b = ap (λ (t : Tests). t .booted) h in
+    let x = ap (λ (t : Tests). t .apart) h in
     let a : AllTrue (both (traceOf judged G r .tests) (traceOf judged G r′ .tests)) =
     record {
       slots = ap (λ (t : Tests). t .slots) h;
@@ -164,6 +186,11 @@ tests-hold G r r′ h c =
       booted = eqb-true _ _ (and-left (bootTest r) _ b);
       booted′ = eqb-true _ _ (and-right (bootTest r) _ b);
       homes = homes-hold G r r′ (ap (λ (t : Tests). t .homes) h);
+      accounts = λ d m.
+          accounts-hold (r .plan) (r′ .plan) d
+          (unless (not (member G d)) _ (below-at 4 _ (ap (λ (t : Tests). t .accounts) h) d (member-below G d m)) (rw m));
+      apart = apart-holds G (r .plan) (and-left (apartTest G (r .plan)) _ x);
+      apart′ = apart-holds G (r′ .plan) (and-right (apartTest G (r .plan)) _ x);
       calls = c;
       premises = along-holds G (startOf r) (boot-sound _ _ _) (r .events) (both-left _ (traceOf judged G r′ .tests) a);
       premises′ = along-holds G (startOf r′) (boot-sound _ _ _) (r′ .events) (both-right (traceOf judged G r .tests) _ a);

@@ -22,22 +22,26 @@ abbrev pub pair : Group
 pair = record { domains = λ d. eqb d 1 || eqb d 2 }
 
 -- Domain 1 makes a procedure of its page 33 and looks it up, domain 2 calls it, reads through it and returns; domain 1 inserts a
--- slot, locks and is refused. Meanwhile the outsiders make and call a procedure of their own, and are refused inside.
+-- slot, locks and is refused. Both may charge accounts 1 and 2; the limit of account 1 is reached, and account 0 is not theirs. Meanwhile
+-- the outsiders make and call a procedure of their own, and are refused inside.
 abbrev pub one : Told
 one =
     record {
       store = replicate 8192 0;
       booter = 0;
-      homes = 11 ∷ 12 ∷ 13 ∷ 14 ∷ [];
+      plan = 11 ∷ 12 ∷ 13 ∷ 14 ∷ 128 ∷ 2 ∷ 128 ∷ 128 ∷ 0 ∷ 9 ∷ 1 ∷ 6 ∷ 2 ∷ 6 ∷ 3 ∷ 9 ∷ [];
       exchanges =
-          by 0 (OnObject (Create 1 1 21)) done
-          ∷ by 1 (OnObject (Create 33 1 31)) done
+          by 0 (OnObject (Create 1 1 21 0)) done
+          ∷ by 1 (OnObject (Create 33 1 31 1)) done
           ∷ by 0 (OnStore (Write 2 256)) done
           ∷ by 0 (OnStore (Write 3 21)) done
           ∷ by 1 (OnStore (Write 2050 8448)) done
           ∷ by 1 (OnStore (Write 2051 31)) done
           ∷ by 0 (registers 1 22 0 11 64) done
           ∷ by 1 (OnStore (Lookup 2112 3)) (0 ∷ 2050 ∷ [])
+          ∷ by 2 (OnObject (Create 65 1 51 1)) (refuses 15)
+          ∷ by 2 (OnObject (Create 65 1 51 0)) (refuses 14)
+          ∷ by 0 (OnObject (Create 2 1 23 1)) (refuses 14)
           ∷ by 1 (registers 33 32 32 12 2112) done
           ∷ by 3 (OnStore (Write 6146 256)) done
           ∷ by 3 (OnStore (Write 6147 22)) done
@@ -66,14 +70,17 @@ other =
     record {
       store = replicate 8192 1;
       booter = 3;
-      homes = 41 ∷ 12 ∷ 13 ∷ 44 ∷ [];
+      plan = 41 ∷ 12 ∷ 13 ∷ 44 ∷ 4 ∷ 2 ∷ 128 ∷ 1 ∷ 0 ∷ 1 ∷ 1 ∷ 6 ∷ 2 ∷ 6 ∷ 3 ∷ 8 ∷ [];
       exchanges =
-          by 1 (OnObject (Create 33 1 31)) done
+          by 1 (OnObject (Create 33 1 31 1)) done
           ∷ by 1 (OnStore (Write 2050 8448)) done
           ∷ by 3 (OnDomain (Lock 255)) done
           ∷ by 1 (OnStore (Write 2051 31)) done
           ∷ by 1 (OnStore (Lookup 2112 3)) (0 ∷ 2050 ∷ [])
-          ∷ by 0 (OnObject (Create 5 3 7)) done
+          ∷ by 2 (OnObject (Create 65 1 51 1)) (refuses 15)
+          ∷ by 0 (OnObject (Create 5 3 7 0)) done
+          ∷ by 0 (OnObject (Create 9 1 8 0)) (refuses 15)
+          ∷ by 2 (OnObject (Create 65 1 51 0)) (refuses 14)
           ∷ by 1 (registers 33 32 32 12 2112) done
           ∷ by 2 (OnStore (Write 4098 8448)) done
           ∷ by 2 (OnStore (Write 4099 32)) done

@@ -4,4 +4,5 @@ pub mod Compared
 pub mod Shown
 pub mod Holds
 pub mod Needed
+pub mod Accounts
 pub mod Behind

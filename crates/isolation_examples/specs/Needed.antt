@@ -1,4 +1,5 @@
--- Each premise is needed: for each a pair of runs that meets all the others, and in which the conclusion fails.
+-- Each premise is needed: for each a pair of runs that meets all the others, and in which the conclusion fails. Those on accounts are in
+-- Accounts.antt.
 use Prim.Native.Nat.{ℕ}
 use mathlib.Core.Path.{_≡_, refl}
 use mathlib.Core.Bool.{true, false}
@@ -16,19 +17,21 @@ use Rattle.isolation.specs.Runs.{membersCalls}
 use Rattle.isolation.specs.Claim.{Isolated}
 use Rattle.isolation_examples.specs.Tests.{Tests, allTrue}
 use Rattle.isolation_examples.specs.Compared.{Parts, comparing}
-use Rattle.isolation_examples.specs.Shown.{Told, runOf, Computed, Shown, by-computing, differ, fails, told, done, refuses, registers}
+use Rattle.isolation_examples.specs.Shown.{Told, own, runOf, Computed, Shown, by-computing, differ, fails, told, done, refuses, registers}
 
 -- the premises that can be broken by themselves: that on slots cannot (Slots.antt); the members' calls come last
 pub data Premise : Type 0 where
-  booted homes held lists granted : Premise
+  booted homes accounts apart held lists granted : Premise
 
 -- every test true but one
 abbrev pub allBut : Premise → Tests
-allBut booted = record { booted = false; homes = true; slots = true; held = true; lists = true; granted = true }
-allBut homes = record { booted = true; homes = false; slots = true; held = true; lists = true; granted = true }
-allBut held = record { booted = true; homes = true; slots = true; held = false; lists = true; granted = true }
-allBut lists = record { booted = true; homes = true; slots = true; held = true; lists = false; granted = true }
-allBut granted = record { booted = true; homes = true; slots = true; held = true; lists = true; granted = false }
+allBut booted = record { booted = false; homes = true; accounts = true; apart = true; slots = true; held = true; lists = true; granted = true }
+allBut homes = record { booted = true; homes = false; accounts = true; apart = true; slots = true; held = true; lists = true; granted = true }
+allBut accounts = record { booted = true; homes = true; accounts = false; apart = true; slots = true; held = true; lists = true; granted = true }
+allBut apart = record { booted = true; homes = true; accounts = true; apart = false; slots = true; held = true; lists = true; granted = true }
+allBut held = record { booted = true; homes = true; accounts = true; apart = true; slots = true; held = false; lists = true; granted = true }
+allBut lists = record { booted = true; homes = true; accounts = true; apart = true; slots = true; held = true; lists = false; granted = true }
+allBut granted = record { booted = true; homes = true; accounts = true; apart = true; slots = true; held = true; lists = true; granted = false }
 
 -- domain 1 alone
 abbrev pub alone : Group
@@ -40,7 +43,7 @@ pub record Broken (p : Premise) (t t′ : Told) (parts : Parts) : Type 0 where
   pub calls : membersCalls alone (runOf t) ≡ membersCalls alone (runOf t′)
   pub failing : Isolated alone (runOf t) (runOf t′) → ⊥
 
-broken : (p : Premise) (t t′ : Told) (parts : Parts) → Computed searched alone t t′ (allBut p) parts
+pub broken : (p : Premise) (t t′ : Told) (parts : Parts) → Computed searched alone t t′ (allBut p) parts
     → membersCalls alone (runOf t) ≡ membersCalls alone (runOf t′) → differ parts ≡ true → Broken p t t′ parts
 broken p t t′ parts s c h = let s = by-computing alone t t′ (allBut p) parts s in record { shown = s; calls = c; failing = fails s h }
 
@@ -59,11 +62,11 @@ inAll = record { answers = false; words = false; objects = false; domains = fals
 
 -- a run with other home passwords
 abbrev pub housedAs : List ℕ → List Exchange → Told
-housedAs hs es = record { store = replicate 8192 0; booter = 0; homes = hs; exchanges = es }
+housedAs hs es = record { store = replicate 8192 0; booter = 0; plan = own hs; exchanges = es }
 
 -- THE LISTS: the member writes into its list a pair that is true for an outside page if the outsider has created that.
 abbrev pub pairs : Told
-pairs = told (by 0 (OnObject (Create 1 1 21)) done ∷ by 1 (OnStore (Write 2050 256)) done ∷ by 1 (OnStore (Write 2051 21)) done ∷ by 1 (OnStore (Read 64)) done ∷ [])
+pairs = told (by 0 (OnObject (Create 1 1 21 0)) done ∷ by 1 (OnStore (Write 2050 256)) done ∷ by 1 (OnStore (Write 2051 21)) done ∷ by 1 (OnStore (Read 64)) done ∷ [])
 
 abbrev pub pairs′ : Told
 pairs′ = told (by 1 (OnStore (Write 2050 256)) done ∷ by 1 (OnStore (Write 2051 21)) done ∷ by 1 (OnStore (Read 64)) (refuses 7) ∷ [])
@@ -75,7 +78,7 @@ pairs-needed =
 
 -- THE HELD CAPABILITY of IN: the call is refused in both runs, at a slot above the count, and tells the member what exists outside.
 abbrev pub inserted : Told
-inserted = told (by 0 (OnObject (Create 1 1 21)) done ∷ by 1 (OnDomain (Insert 2 (record { page = 1; password = 21 }))) (refuses 12) ∷ [])
+inserted = told (by 0 (OnObject (Create 1 1 21 0)) done ∷ by 1 (OnDomain (Insert 2 (record { page = 1; password = 21 }))) (refuses 12) ∷ [])
 
 abbrev pub inserted′ : Told
 inserted′ = told (by 1 (OnDomain (Insert 2 (record { page = 1; password = 21 }))) (refuses 7) ∷ [])
@@ -87,7 +90,7 @@ inserted-needed =
 
 -- THE HELD CAPABILITY of RG: the member registers its home with an outside list.
 abbrev pub registered : Told
-registered = told (by 0 (OnObject (Create 1 1 21)) done ∷ by 1 (registers 32 15 1 21 2048) done ∷ [])
+registered = told (by 0 (OnObject (Create 1 1 21 0)) done ∷ by 1 (registers 32 15 1 21 2048) done ∷ [])
 
 abbrev pub registered′ : Told
 registered′ = told (by 1 (registers 32 15 1 21 2048) (refuses 7) ∷ [])

@@ -2,7 +2,7 @@
 use Prim.Native.Nat.{ℕ}
 use mathlib.Core.Path.{_≡_, ap, sym, _∙_}
 use mathlib.Core.Bool.{Bool, true, not, _&&_, true≢false}
-use mathlib.Core.List.{List, [], _∷_, map}
+use mathlib.Core.List.{List, [], _∷_, _++_, map}
 use lib.ListN.{replicate}
 use Rattle.judge.specs.Search.{searched}
 use Rattle.judge.specs.Judged.{judged}
@@ -23,14 +23,14 @@ use Rattle.isolation_examples.specs.Compared.{Parts, partsBy, parts-hold
 pub record Told : Type 0 where
   pub store : List ℕ
   pub booter : ℕ
-  pub homes : List ℕ
+  pub plan : List ℕ
   pub exchanges : List Exchange
 
 abbrev pub eventOf : Exchange → Event
 eventOf e = record { domain = e .domain; call = e .call }
 
 abbrev pub runOf : Told → Run
-runOf t = record { store = t .store; booter = t .booter; homes = t .homes; events = map eventOf (t .exchanges) }
+runOf t = record { store = t .store; booter = t .booter; plan = t .plan; events = map eventOf (t .exchanges) }
 
 -- two runs computed: every answer, every premise's test, every part of the conclusion
 pub record Computed (judging : Judging) (G : Group) (t t′ : Told) (tests : Tests) (parts : Parts) : Type 0 where
@@ -67,9 +67,14 @@ pub fails : {G : Group} {t t′ : Told} {tests : Tests} {parts : Parts} → Show
 fails {G} {t} {t′} s h i =
     let e = sym (s .compared) ∙ parts-hold G (runOf t) (runOf t′) i in true≢false (sym h ∙ ap differ e)
 
+-- the plan of a boot with home passwords that gives each domain an account of its own, with a limit of 128: domain d account d, and the
+-- set of that account alone
+abbrev pub own : List ℕ → List ℕ
+own homes = homes ++ (128 ∷ 128 ∷ 128 ∷ 128 ∷ 0 ∷ 1 ∷ 1 ∷ 2 ∷ 2 ∷ 4 ∷ 3 ∷ 8 ∷ [])
+
 -- a boot with the home passwords 11, 12, 13, 14 on a store of zeros
 abbrev pub told : List Exchange → Told
-told es = record { store = replicate 8192 0; booter = 0; homes = 11 ∷ 12 ∷ 13 ∷ 14 ∷ []; exchanges = es }
+told es = record { store = replicate 8192 0; booter = 0; plan = own (11 ∷ 12 ∷ 13 ∷ 14 ∷ []); exchanges = es }
 
 -- a registration with one entry
 abbrev pub registers : ℕ → ℕ → ℕ → ℕ → ℕ → Call

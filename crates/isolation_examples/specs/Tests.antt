@@ -7,6 +7,7 @@ use lib.Dec.{eqb}
 use lib.ListN.{length, getD}
 use Rattle.bounded.specs.Every.{below}
 use Rattle.state.specs.Places.{slotAt, savedAt, domainAt}
+use Rattle.state.specs.Pages.{inSet}
 use Rattle.state.specs.declared.Table.{Table}
 use Rattle.state.specs.declared.Frame.{Frame}
 use Rattle.clists.specs.Clist.{listAt}
@@ -14,7 +15,7 @@ use Rattle.calls.specs.Answers.{numberOf}
 use Rattle.calls.specs.View.{World, Judging, firstFailing}
 use Rattle.calls.specs.Rules.{wanted, presented, early}
 use Rattle.calls.specs.Step.{Result, uncheckedBy, worldOf, answerOf}
-use Rattle.calls.specs.Boot.{homeOf}
+use Rattle.calls.specs.Boot.{homeOf, limitOf, accountOf, setOf}
 use Rattle.calls.specs.Runs.{Event}
 use Rattle.cases.specs.Runs.{answersBy}
 use Rattle.calls.specs.declared.Refusal.{Refusal}
@@ -112,13 +113,27 @@ traceBy judging G w (e ∷ es) =
 pub record Tests : Type 0 where
   pub booted : Bool
   pub homes : Bool
+  pub accounts : Bool
+  pub apart : Bool
   pub slots : Bool
   pub held : Bool
   pub lists : Bool
   pub granted : Bool
 
 unfoldable pub homesTest : Group → Run → Run → Bool
-homesTest G r r′ = below 4 (λ d. not (member G d) || eqb (homeOf (r .homes) d) (homeOf (r′ .homes) d))
+homesTest G r r′ = below 4 (λ d. not (member G d) || eqb (homeOf (r .plan) d) (homeOf (r′ .plan) d))
+
+-- a domain has the same home account and the same set, and the accounts in the set the same limits
+unfoldable pub accountsTest : List ℕ → List ℕ → ℕ → Bool
+accountsTest plan plan′ d =
+    eqb (accountOf plan d) (accountOf plan′ d)
+    && eqb (setOf plan d) (setOf plan′ d)
+    && below 4 (λ a. not (inSet (setOf plan d) a) || eqb (limitOf plan a) (limitOf plan′ a))
+
+-- no account is in the set of a member and in the set of an outsider
+unfoldable pub apartTest : Group → List ℕ → Bool
+apartTest G plan =
+    below 4 (λ d. not (member G d) || below 4 (λ e. member G e || below 4 (λ a. not (inSet (setOf plan d) a && inSet (setOf plan e) a))))
 
 abbrev pub bootTest : Run → Bool
 bootTest r = eqb (numberOf (bootResult r .outcome .answer)) 0
@@ -131,6 +146,8 @@ testsOf G r r′ t =
     record {
       booted = bootTest r && bootTest r′;
       homes = homesTest G r r′;
+      accounts = below 4 (λ d. not (member G d) || accountsTest (r .plan) (r′ .plan) d);
+      apart = apartTest G (r .plan) && apartTest G (r′ .plan);
       slots = t .slots;
       held = t .held;
       lists = t .lists;
@@ -141,9 +158,9 @@ abbrev pub testsBy : Judging → Group → Run → Run → Tests
 testsBy judging G r r′ = testsOf G r r′ (both (traceOf judging G r .tests) (traceOf judging G r′ .tests))
 
 abbrev pub allTrue : Tests
-allTrue = record { booted = true; homes = true; slots = true; held = true; lists = true; granted = true }
+allTrue = record { booted = true; homes = true; accounts = true; apart = true; slots = true; held = true; lists = true; granted = true }
 
 -- unfolding it unfolds all that the tests compute with
 unfoldable pub testing : ℕ
-unfolding answersBy member membersOnly staysInside frameTest slotsTest stateTest heldTest pairsTest listsTest judgesTest listsWhen grantedTest callTests traceBy homesTest
+unfolding answersBy member membersOnly staysInside frameTest slotsTest stateTest heldTest pairsTest listsTest judgesTest listsWhen grantedTest callTests traceBy homesTest accountsTest apartTest
 testing = 0

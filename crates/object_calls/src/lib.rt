@@ -9,6 +9,7 @@ use judge::Judgement;
 use judge::Target;
 use judge::judge;
 use rights::Rights;
+use state::Accounts;
 use state::Estate;
 use state::Frame;
 use state::Object;
@@ -23,12 +24,18 @@ use state::objects::free_object;
 use state::objects::free_password_place;
 use state::objects::has_password;
 use state::objects::new_object;
+use state::pages::in_set;
+use state::pages::pages_of;
 use state::tables::object_based;
+ghost use mathlib.Core.Bool.{_&&_};
 ghost use mathlib.Core.Path.{_≡_};
-ghost use Prim.Native.Nat.{ℕ, _<_};
+ghost use Prim.Native.Nat.{ℕ, _+_, _<_, _≤_};
+ghost use lib.Dec.{leb};
 ghost use Rattle.state.specs.Places.{objectAt};
-ghost use Rattle.state.specs.Extent.{apart};
+ghost use Rattle.state.specs.Extent.{liesIn, apart};
+ghost use Rattle.state.specs.Pages.{pagesOf};
 ghost use Rattle.state.specs.declared.Frame.{Frame as Slots};
+ghost use Rattle.state.specs.declared.Accounts.{Accounts as Limits};
 ghost use Rattle.calls.specs.Arguments.{runFree};
 ghost use Rattle.calls.specs.Rules.{inRange};
 ghost use Rattle.calls.specs.Parts.{Alters};
@@ -58,38 +65,58 @@ fn run_free(e: Estate, o: Object) -> bool
         & place_apart(e, 7, o)
 }
 
-// Whether the arguments of CR are in range.
-fn create_in_range(page: u64, pages: u64, password: u64) -> bool
-    ensures { λ r. ⌜ r ≡ inRange (OnObject (Create page pages password)) ⌝ }
+// Whether the object lies in the estate of domain d, apart from all that stand there.
+fn run_ok(e: Estate, o: Object, d: u8) -> bool
+    ensures { λ r. ⌜ r ≡ (liesIn o d && runFree e o) ⌝ }
 {
-    (page < 128) & (0 < pages) & (pages <= 32) & (password != 0)
+    lies_in(o, d) & run_free(e, o)
 }
 
-// CR: a new object in the caller's estate.
+// Whether the account's pages, with as many more, are at most its limit.
+fn within_limit(t: Table, limit: u8, account: u64, pages: u64) -> bool
+    requires { ⌜ pages ≤ 32 ⌝ }
+    ensures { λ r. ⌜ r ≡ leb (pagesOf t account + pages) limit ⌝ }
+{
+    pages_of(t, account) as u64 + pages <= limit as u64
+}
+
+// Whether the arguments of CR are in range.
+fn create_in_range(page: u64, pages: u64, password: u64, account: u64) -> bool
+    ensures { λ r. ⌜ r ≡ inRange (OnObject (Create page pages password account)) ⌝ }
+{
+    (page < 128) & (0 < pages) & (pages <= 32) & (password != 0) & (account < 4)
+}
+
+// CR: a new object in the caller's estate, charged to an account.
 pub fn obj_create(
     t: Table,
+    x: Accounts,
     store: &mut [u64],
     d: u64,
     page: u64,
     pages: u64,
     password: u64,
+    account: u64,
 ) -> Altered
-    ensures { λ r. ⌜ ((f : Slots) → Alters t d f (now (store .entry)) (Create page pages password) r (now (store .exit))) ⌝ }
+    ensures { λ r. ⌜ ((f : Slots) → Alters t x d f (now (store .entry)) (Create page pages password account) r (now (store .exit))) ⌝ }
 {
     if 4 <= d {
         return unaltered(t, Refusal::NoDomain);
     }
-    if !create_in_range(page, pages, password) {
+    if !create_in_range(page, pages, password, account) {
         return unaltered(t, Refusal::OutOfRange);
     }
     let place = d as usize;
     let e = t.estates[place];
-    let o = new_object(page as u8, pages as u8, password);
-    if !lies_in(o, d as u8) {
+    let o = new_object(page as u8, pages as u8, password, account as u8);
+    if !run_ok(e, o, d as u8) {
         return unaltered(t, Refusal::NoRun);
     }
-    if !run_free(e, o) {
-        return unaltered(t, Refusal::NoRun);
+    if !in_set(x.sets[place], account) {
+        return unaltered(t, Refusal::NotPermitted);
+    }
+    if !within_limit(t, x.limits[account as usize], account, pages) {
+        return unaltered(t, Refusal::LimitPassed);
     }
     let k = free_place(e);
     if 8 <= k {
@@ -105,7 +132,7 @@ pub fn obj_create(
 
 // DL: removes an object.
 pub fn obj_delete(t: Table, store: &[u64], f: Frame, base: u64) -> Altered
-    ensures { λ r. ⌜ ((d : ℕ) → Alters t d f (now (store .entry)) (Delete base) r (now (store .entry))) ⌝ }
+    ensures { λ r. ⌜ ((u : Limits) (d : ℕ) → Alters t u d f (now (store .entry)) (Delete base) r (now (store .entry))) ⌝ }
 {
     if 128 <= base {
         return unaltered(t, Refusal::OutOfRange);
@@ -132,7 +159,7 @@ pub fn obj_passwd_add(
     password: u64,
     mode: u64,
 ) -> Altered
-    ensures { λ r. ⌜ ((d : ℕ) → Alters t d f (now (store .entry)) (AddPassword base password mode) r (now (store .entry))) ⌝ }
+    ensures { λ r. ⌜ ((u : Limits) (d : ℕ) → Alters t u d f (now (store .entry)) (AddPassword base password mode) r (now (store .entry))) ⌝ }
 {
     if !add_in_range(base, password, mode) {
         return unaltered(t, Refusal::OutOfRange);
@@ -155,7 +182,7 @@ pub fn obj_passwd_add(
 
 // DP: drops a password of an object, or the registration that has it.
 pub fn obj_passwd_drop(t: Table, store: &[u64], f: Frame, base: u64, password: u64) -> Altered
-    ensures { λ r. ⌜ ((d : ℕ) → Alters t d f (now (store .entry)) (DropPassword base password) r (now (store .entry))) ⌝ }
+    ensures { λ r. ⌜ ((u : Limits) (d : ℕ) → Alters t u d f (now (store .entry)) (DropPassword base password) r (now (store .entry))) ⌝ }
 {
     if 128 <= base {
         return unaltered(t, Refusal::OutOfRange);

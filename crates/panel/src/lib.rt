@@ -19,8 +19,38 @@ pub extern "C" fn reshqobi_bt(
     home1: u64,
     home2: u64,
     home3: u64,
+    limit0: u64,
+    limit1: u64,
+    limit2: u64,
+    limit3: u64,
+    account0: u64,
+    set0: u64,
+    account1: u64,
+    set1: u64,
+    account2: u64,
+    set2: u64,
+    account3: u64,
+    set3: u64,
 ) -> u64
-    ensures { λ r. ⌜ told r (slices (now (image .exit)) (now (store .exit)) (now (values .exit))) ≡ booted (slices (now (image .entry)) (now (store .entry)) (now (values .entry))) domain (home0 ∷ home1 ∷ home2 ∷ home3 ∷ []) ⌝ }
+    ensures { λ r. ⌜ told r (slices (now (image .exit)) (now (store .exit)) (now (values .exit))) ≡ booted (slices (now (image .entry)) (now (store .entry)) (now (values .entry))) domain (home0 ∷ home1 ∷ home2 ∷ home3 ∷ limit0 ∷ limit1 ∷ limit2 ∷ limit3 ∷ account0 ∷ set0 ∷ account1 ∷ set1 ∷ account2 ∷ set2 ∷ account3 ∷ set3 ∷ []) ⌝ }
 {
-    boot_call(image, store, values, domain, [home0, home1, home2, home3])
+    let plan = [
+        home0,
+        home1,
+        home2,
+        home3,
+        limit0,
+        limit1,
+        limit2,
+        limit3,
+        account0,
+        set0,
+        account1,
+        set1,
+        account2,
+        set2,
+        account3,
+        set3,
+    ];
+    boot_call(image, store, values, domain, plan)
 }

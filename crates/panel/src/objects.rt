@@ -9,7 +9,7 @@ ghost use Rattle.calls.specs.declared.Call.the-variants.{OnObject};
 ghost use Rattle.calls.specs.declared.ObjectCall.the-variants.{Create, Delete, AddPassword, DropPassword, Register};
 ghost use Rattle.byte_calls.specs.Called.{slices, told, called};
 
-// CR: a new object in the caller's estate.
+// CR: a new object in the caller's estate, charged to an account.
 #[no_mangle]
 pub extern "C" fn reshqobi_cr(
     image: &mut [u8],
@@ -19,13 +19,15 @@ pub extern "C" fn reshqobi_cr(
     page: u64,
     pages: u64,
     password: u64,
+    account: u64,
 ) -> u64
-    ensures { λ r. ⌜ told r (slices (now (image .exit)) (now (store .exit)) (now (values .exit))) ≡ called (slices (now (image .entry)) (now (store .entry)) (now (values .entry))) domain (OnObject (Create page pages password)) ⌝ }
+    ensures { λ r. ⌜ told r (slices (now (image .exit)) (now (store .exit)) (now (values .exit))) ≡ called (slices (now (image .entry)) (now (store .entry)) (now (values .entry))) domain (OnObject (Create page pages password account)) ⌝ }
 {
     let c = ObjectCall::Create {
         page,
         pages,
         password,
+        account,
     };
     call(image, store, values, domain, Call::OnObject(c))
 }

@@ -24,6 +24,7 @@ ghost use Prim.Native.Nat.{ℕ, _/_, _<_, _≤_};
 ghost use mathlib.Core.Bool.{true, cond, _||_};
 ghost use lib.Dec.{leb, ltb};
 ghost use Rattle.state.specs.Extent.{covers};
+ghost use Rattle.state.specs.declared.Accounts.{Accounts as Limits};
 ghost use Rattle.calls.specs.Arguments.{entriesAll};
 ghost use Rattle.calls.specs.Changes.{capability, registration};
 ghost use Rattle.calls.specs.Rules.{inRange};
@@ -127,7 +128,7 @@ pub fn obj_cre_pdx(
     list: Presented,
     entries: Entries,
 ) -> Altered
-    ensures { λ r. ⌜ ((d : ℕ) → Alters t d f (now (store .entry)) (Register base password list entries) r (now (store .entry))) ⌝ }
+    ensures { λ r. ⌜ ((u : Limits) (d : ℕ) → Alters t u d f (now (store .entry)) (Register base password list entries) r (now (store .entry))) ⌝ }
 {
     if !register_in_range(base, password, list, entries) {
         return unaltered(t, Refusal::OutOfRange);

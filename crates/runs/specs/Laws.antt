@@ -3,3 +3,5 @@ pub mod Others
 pub mod Kept
 pub mod Added
 pub mod WholeLock
+pub mod Figure
+pub mod Ledger

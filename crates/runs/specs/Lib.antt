@@ -1,2 +1,3 @@
 pub mod WholeLock
+pub mod Ledger
 pub mod Laws

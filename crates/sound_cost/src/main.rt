@@ -3,6 +3,7 @@
 ghost use Prim.Native.Nat.{_<_, _≤_};
 use libc::STDOUT_FILENO;
 use soundness::sound;
+use state::Accounts;
 use state::Capability;
 use state::Domain;
 use state::Estate;
@@ -19,7 +20,7 @@ use state::objects::add_password;
 use state::objects::new_object;
 use state::objects::with_registration;
 
-// An object with two passwords and a registration.
+// An object with two passwords and a registration, on account 1.
 fn registered(base: u8, word: u64) -> Object
     requires { ⌜ base < 128 ⌝ }
 {
@@ -32,17 +33,17 @@ fn registered(base: u8, word: u64) -> Object
         count: 1,
         entries: [64 * (base as u16), 0, 0, 0],
     };
-    with_registration(add_password(new_object(base, 4, word), 2, 1), g)
+    with_registration(add_password(new_object(base, 4, word, 1), 2, 1), g)
 }
 
-// An estate with four objects.
+// An estate with four objects, on accounts 1 to 3.
 fn filled(e: Estate, base: u8, word: u64) -> Estate
     requires { ⌜ base < 112 ⌝ }
 {
     let mut f = with_object(e, 0, registered(base, word));
     f = with_object(f, 1, registered(base + 4, word));
-    f = with_object(f, 2, new_object(base + 8, 2, word));
-    with_object(f, 3, new_object(base + 12, 4, word))
+    f = with_object(f, 2, new_object(base + 8, 2, word, 2));
+    with_object(f, 3, new_object(base + 12, 4, word, 3))
 }
 
 // A domain with three slots in use and one saved.
@@ -58,9 +59,14 @@ fn slotted(m: Domain, page: u8, word: u64) -> Domain {
     save_domain(n, three)
 }
 
-// A state with sixteen objects, whose passwords have a word.
+// A state with sixteen objects, whose passwords have a word, and four accounts.
 fn example(word: u64) -> State {
     let mut s = empty_state();
+    let accounts = Accounts {
+        limits: [32, 64, 96, 128],
+        sets: [1, 3, 7, 15],
+    };
+    s.accounts = accounts;
     let t = s.table;
     let e = t.estates[0];
     let m = s.domains[0];

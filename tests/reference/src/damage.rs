@@ -81,6 +81,20 @@ pub fn register_line(length: usize) -> Vec<u8> {
     line
 }
 
+/// A BT line of exactly `length` bytes, 36 to 340: readable but for its length,
+/// with numbers of up to 20 digits.
+pub fn boot_line(length: usize) -> Vec<u8> {
+    let mut line = b"0,BT".to_vec();
+    let mut more = length - 36;
+    for _ in 0..16 {
+        let digits = 1 + more.min(19);
+        more -= digits - 1;
+        line.push(b',');
+        line.resize(line.len() + digits, b'1');
+    }
+    line
+}
+
 /// The line in a form that cannot be read.
 pub fn damage(line: &Line, form: Form, random: &mut Random) -> Vec<u8> {
     let mut fields = line.fields();
@@ -95,10 +109,16 @@ pub fn damage(line: &Line, form: Form, random: &mut Random) -> Vec<u8> {
         Form::NoDomain => {
             fields.remove(0);
         }
-        Form::FieldMissing => match line.args.len().min(4) {
-            0 => fields.truncate(1),
-            needed => fields.truncate(2 + random.index(needed)),
-        },
+        Form::FieldMissing => {
+            let needed = match line.letters {
+                "RG" => 4,
+                _ => line.args.len(),
+            };
+            match needed {
+                0 => fields.truncate(1),
+                _ => fields.truncate(2 + random.index(needed)),
+            }
+        }
         Form::FieldExtra => {
             if line.letters == "RG" {
                 fields[1] = "IN".into();

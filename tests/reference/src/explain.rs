@@ -108,6 +108,8 @@ pub fn refusal(letters: &str, answer: u64) -> &'static str {
         (12, "DP") => "nothing there: no such password",
         (12, "RT") => "nothing saved",
         (12, _) => "nothing there: no such slot",
+        (14, _) => "the account is not in the caller's set",
+        (15, _) => "the account's pages would pass its limit",
         _ => "the number has no words here",
     }
 }

@@ -6,6 +6,7 @@ pub mod compare;
 pub mod coverage;
 pub mod damage;
 pub mod explain;
+pub mod figures;
 pub mod generate;
 pub mod image;
 pub mod inputs;

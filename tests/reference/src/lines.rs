@@ -8,14 +8,18 @@ pub const MAX_LINE: usize = 200;
 
 pub const HEADER: &str = "line,answer,value\n";
 
+/// The boot of the paper's listing, with ample accounts: limits of 128, sets of
+/// 15, and account 0 for every home.
+pub const BOOT: &str = "0,BT,11,12,13,14,128,128,128,128,0,15,0,15,0,15,0,15";
+
 /// The call letters and how many arguments each takes; RG takes at least four.
 pub const LETTERS: [(&str, usize); 16] = [
-    ("BT", 4),
+    ("BT", 16),
     ("RD", 1),
     ("WR", 2),
     ("EX", 1),
     ("LK", 2),
-    ("CR", 3),
+    ("CR", 4),
     ("DL", 1),
     ("AP", 3),
     ("DP", 2),
@@ -59,20 +63,31 @@ fn capability(page: u64, password: u64) -> Capability {
     Capability { page, password }
 }
 
+/// The boot with these arguments: four home passwords, four limits, then each
+/// domain's home account and set.
+fn boot_of(numbers: [u64; 16]) -> Call {
+    let four = |first: usize, step: usize| [0, 1, 2, 3].map(|i| numbers[first + step * i]);
+    Call::Bt {
+        homes: four(0, 1),
+        limits: four(4, 1),
+        accounts: four(8, 2),
+        sets: four(9, 2),
+    }
+}
+
 /// The call of these letters with these arguments.
 fn call_of(letters: &[u8], numbers: &[u64]) -> Option<Call> {
     Some(match (letters, numbers) {
-        (b"BT", &[a, b, c, d]) => Call::Bt {
-            homes: [a, b, c, d],
-        },
+        (b"BT", numbers) => boot_of(numbers.try_into().ok()?),
         (b"RD", &[address]) => Call::Rd { address },
         (b"WR", &[address, value]) => Call::Wr { address, value },
         (b"EX", &[address]) => Call::Ex { address },
         (b"LK", &[address, rights]) => Call::Lk { address, rights },
-        (b"CR", &[page, count, password]) => Call::Cr {
+        (b"CR", &[page, count, password, account]) => Call::Cr {
             page,
             count,
             password,
+            account,
         },
         (b"DL", &[base]) => Call::Dl { base },
         (b"AP", &[base, password, mode]) => Call::Ap {

@@ -1,7 +1,7 @@
 //! The mode table of T-04: what the printing program has to print, what a
 //! monitor that uses the table answers, and the chart in docs/MODES.md.
 
-use crate::lines::HEADER;
+use crate::lines::{BOOT, HEADER};
 use crate::monitor::{legal_mode, D, NOT, P, R, W, X};
 
 /// As many entries as there are modes.
@@ -56,7 +56,7 @@ pub fn printed(text: &str) -> Result<Vec<bool>, String> {
 /// Call lines that add a password in each mode, and drop it again; and the
 /// whole output of a monitor that uses these entries.
 pub fn trials(entries: &[bool]) -> (String, String) {
-    let mut input = String::from("0,BT,11,12,13,14\n");
+    let mut input = format!("{BOOT}\n");
     let mut output = format!("{HEADER}1,0,0\n");
     for (mode, legal) in entries.iter().enumerate() {
         input += &format!("0,AP,0,21,{mode}\n0,DP,0,21\n");

@@ -89,10 +89,10 @@ impl List {
 /// The lines that set the stage.
 pub fn stage() -> Vec<Line> {
     let homes = [0, 1, 2, 3].map(|d| password(d * ESTATE_PAGES));
-    let mut lines = vec![Line::new(0, "BT", &homes)];
+    let mut lines = vec![Line::boot(0, homes)];
     for page in [1, 2, 3, 4, 33, 34] {
         let d = page / ESTATE_PAGES;
-        lines.push(Line::new(d, "CR", &[page, 1, password(page)]));
+        lines.push(Line::new(d, "CR", &[page, 1, password(page), 0]));
     }
     // The home's second pair owns the Clist.
     BEHIND.write_pair(2, BEHIND.page, &mut lines);

@@ -52,7 +52,7 @@ pub fn entry(d: u64) -> u64 {
 
 /// The lines that set the stage.
 pub fn stage() -> Vec<Line> {
-    let mut lines = vec![Line::new(0, "BT", &[home(0), home(1), home(2), home(3)])];
+    let mut lines = vec![Line::boot(0, [home(0), home(1), home(2), home(3)])];
     for d in 0..DOMAINS as u64 {
         create_objects(d, &mut lines);
         set_up_clists(d, &mut lines);
@@ -68,18 +68,13 @@ pub fn stage() -> Vec<Line> {
 
 /// A domain's Clist, service and data.
 fn create_objects(d: u64, lines: &mut Vec<Line>) {
-    lines.push(Line::new(d, "CR", &[base(d, CLIST), 2, clist_password(d)]));
-    lines.push(Line::new(
-        d,
-        "CR",
-        &[base(d, SERVICE), 1, service_password(d)],
-    ));
+    let mut create = |page, count, password| {
+        lines.push(Line::new(d, "CR", &[base(d, page), count, password, 0]));
+    };
+    create(CLIST, 2, clist_password(d));
+    create(SERVICE, 1, service_password(d));
     for page in DATA {
-        lines.push(Line::new(
-            d,
-            "CR",
-            &[base(d, page), 1, data_password(d, page)],
-        ));
+        create(page, 1, data_password(d, page));
     }
 }
 
@@ -236,7 +231,7 @@ impl Steps {
         let (dead, old) = (base(d, 20 + DATA[1]), data_password(d, DATA[1]));
         let (kept, added) = (base(d, DATA[0]), 500 + d);
         match *made % 6 {
-            1 => Line::new(d, "CR", &[dead, 1, old]),
+            1 => Line::new(d, "CR", &[dead, 1, old, 0]),
             2 => Line::new(d, "DL", &[dead]),
             3 => Line::new(d, "AP", &[kept, added, R]),
             4 => Line::new(d, "DP", &[kept, added]),

@@ -4,7 +4,7 @@ use refmonitor::coverage::TABLE;
 use refmonitor::damage::register_line;
 use refmonitor::explain::{explain, refusal};
 use refmonitor::inputs;
-use refmonitor::lines::run_bytes;
+use refmonitor::lines::{run_bytes, BOOT};
 use std::fs;
 use std::io::Write;
 use std::path::Path;
@@ -19,11 +19,13 @@ fn rows(input: &[u8]) -> String {
 fn a_row_for_a_line() {
     let input = b"\
 0,GT
-0,BT,11,12,13,14
+0,BT,11,12,13,14,5,4,4,4,0,3,0,15,0,15,0,15
 0,RD,0
 0,EX,0
 0,LK,0,3
 0,WR,64,5
+0,CR,1,1,21,2
+0,CR,1,2,21,0
 0,IN,1,32,12
 0,LO,0
 0,LO,255
@@ -33,19 +35,21 @@ fn a_row_for_a_line() {
 0,RT
 ";
     let wanted = "
- 1  0,GT               0  done: 0 slots, 0 locked, whole lock not set
- 2  0,BT,11,12,13,14   0  done
- 3  0,RD,0             0  done, value 15
- 4  0,EX,0             0  done, address 0
- 5  0,LK,0,3           0  done, granted by the pair at 0
- 6  0,WR,64,5          7  refused: the rights are not granted
- 7  0,IN,1,32,12       0  done
- 8  0,LO,0             0  done
- 9  0,LO,255           0  done
-10  0,GT               0  done: 2 slots, 1 locked, whole lock set; pages 0, 32
-11  0,CA,0,0           6  refused: the whole lock is set
-12  4,RT               4  refused: the domain is above 3
-13  0,RT              12  refused: nothing saved
+ 1  0,GT            0  done: 0 slots, 0 locked, whole lock not set
+ 2  0,BT,11,12,13,14,5,4,4,4,0,3,0,15,0,15,0,15   0  done
+ 3  0,RD,0          0  done, value 15
+ 4  0,EX,0          0  done, address 0
+ 5  0,LK,0,3        0  done, granted by the pair at 0
+ 6  0,WR,64,5       7  refused: the rights are not granted
+ 7  0,CR,1,1,21,2  14  refused: the account is not in the caller's set
+ 8  0,CR,1,2,21,0  15  refused: the account's pages would pass its limit
+ 9  0,IN,1,32,12    0  done
+10  0,LO,0          0  done
+11  0,LO,255        0  done
+12  0,GT            0  done: 2 slots, 1 locked, whole lock set; pages 0, 32
+13  0,CA,0,0        6  refused: the whole lock is set
+14  4,RT            4  refused: the domain is above 3
+15  0,RT           12  refused: nothing saved
 ";
     assert_eq!(rows(input), wanted[1..]);
     assert_eq!(rows(b""), "");
@@ -53,15 +57,15 @@ fn a_row_for_a_line() {
 
 #[test]
 fn calls_of_procedures() {
-    let input = b"0,BT,1,2,3,4\n0,RG,0,5,0,1,9\n0,WR,2,0\n0,WR,3,5\n0,CA,8,1\n0,CA,9,1\n0,GT\n";
-    let rows = rows(input);
+    let input = format!("{BOOT}\n0,RG,0,5,0,11,9\n0,WR,2,0\n0,WR,3,5\n0,CA,8,1\n0,CA,9,1\n0,GT\n");
+    let rows = rows(input.as_bytes());
     let last: Vec<&str> = rows.lines().skip(4).collect();
     assert_eq!(
         last,
         [
-            "5  0,CA,8,1         8  refused: the address is no entry",
-            "6  0,CA,9,1         0  done, entered at 9",
-            "7  0,GT             0  done: 1 slot, 0 locked, whole lock not set; page 0",
+            "5  0,CA,8,1          8  refused: the address is no entry",
+            "6  0,CA,9,1          0  done, entered at 9",
+            "7  0,GT              0  done: 1 slot, 0 locked, whole lock not set; page 0",
         ]
     );
 }

@@ -1,18 +1,22 @@
-//! The image by docs/IMAGE.md: written by hand, and each bound broken by itself.
+//! The image by docs/IMAGE.md: a sample written by hand, and each bound broken by
+//! itself.
 
-use refmonitor::image::{decode, encode, Placed, IMAGE_BYTES};
-use refmonitor::inputs;
-use refmonitor::lines::calls;
+use refmonitor::image::{decode, encode, IMAGE_BYTES};
 use refmonitor::monitor::*;
 
 /// An object in place 2 of domain 1's estate, and one in place 5.
-const OBJECT: usize = 512 + 2 * 64;
-const NEXT: usize = 512 + 5 * 64;
+const ESTATE: usize = 520;
+const OBJECT: usize = ESTATE + 2 * 65;
+const NEXT: usize = ESTATE + 5 * 65;
 
 /// Domain 2, and its saved frames 0 and 1.
-const DOMAIN: usize = 2048 + 2 * 376;
+const DOMAIN: usize = 2080 + 2 * 376;
 const SAVED: usize = DOMAIN + 75;
 const UNSAVED: usize = DOMAIN + 150;
+
+/// The limits of the accounts, and the sets of the domains.
+const LIMIT: usize = 3584;
+const SET: usize = 3588;
 
 /// Bytes at an offset.
 type Piece<'a> = (usize, &'a [u8]);
@@ -26,27 +30,31 @@ fn image(pieces: &[Piece]) -> Vec<u8> {
 }
 
 /// Pages 40 and 41 in place 2, with passwords in places 0 and 2 and a
-/// registration; pages 42 to 63 in place 5. Domain 2 has two slots and a saved
-/// frame with eight.
+/// registration, on account 3; pages 42 to 63 in place 5. Domain 2 has two slots
+/// and a saved frame with eight. Account 3 has a limit of 1, less than it is
+/// charged, and domain 0 may charge accounts 1 and 3.
 fn sample() -> Vec<u8> {
     image(&[
         (OBJECT, &[40, 2, 7, 1, 0, 0, 0, 0, 0, 0, 15]),
         (OBJECT + 20, &[9, 0, 0, 0, 0, 0, 0, 0, 144]),
         (OBJECT + 38, &[8, 0, 0, 0, 0, 0, 0, 0, 127, 3]),
         (OBJECT + 55, &[2, 0, 10, 127, 10]),
+        (OBJECT + 64, &[3]),
         (NEXT, &[42, 22]),
         (DOMAIN, &[127, 0, 0, 0, 0, 0, 0, 0, 1, 5]),
         (DOMAIN + 72, &[2, 1, 1]),
         (SAVED + 63, &[6, 1]),
         (SAVED + 72, &[8, 8]),
         (DOMAIN + 375, &[1]),
+        (LIMIT, &[128, 0, 0, 1]),
+        (SET, &[10, 0, 0, 15]),
     ])
 }
 
 /// The sample in the monitor's own data.
 fn sample_monitor() -> Monitor {
     let mut monitor = Monitor::new();
-    let mut first = Object::new(40, 2, 263);
+    let mut first = Object::new(40, 2, 263, 3);
     first.passwords.insert(0, Password { word: 9, mode: 144 });
     first.registration = Some(Registration {
         password: 8,
@@ -56,7 +64,7 @@ fn sample_monitor() -> Monitor {
         },
         entries: vec![2560, 2687],
     });
-    let mut second = Object::new(42, 22, 1);
+    let mut second = Object::new(42, 22, 1, 0);
     second.passwords.clear();
     monitor.objects = vec![second, first];
     let slot = |page, password| Capability { page, password };
@@ -71,48 +79,9 @@ fn sample_monitor() -> Monitor {
         locked: 8,
         whole: false,
     }];
+    monitor.limits = [128, 0, 0, 1];
+    monitor.sets = [10, 0, 0, 15];
     monitor
-}
-
-#[test]
-fn zeros_are_the_state_before_a_boot() {
-    let state = decode(&[0; IMAGE_BYTES]).unwrap();
-    assert_eq!(state, Placed::default());
-    assert_eq!(state.difference(&Monitor::new()), None);
-    assert_eq!(encode(&state), [0; IMAGE_BYTES]);
-}
-
-#[test]
-fn other_lengths_do_not_read() {
-    for length in [0, 1, IMAGE_BYTES - 1, IMAGE_BYTES + 1, 2 * IMAGE_BYTES] {
-        assert_eq!(decode(&vec![0; length]), None, "{length}");
-    }
-}
-
-/// The image of `0,BT,11,12,13,14`, its objects in the first places.
-#[test]
-fn a_boot_by_hand() {
-    let home = |word: u8, page: u8| [page, 1, word, 0, 0, 0, 0, 0, 0, 0, 15];
-    let slot = |word: u8, page: u8| [page, word, 0, 0, 0, 0, 0, 0, 0];
-    let by_hand = image(&[
-        (0, &home(11, 0)),
-        (512, &home(12, 32)),
-        (1024, &home(13, 64)),
-        (1536, &home(14, 96)),
-        (2048, &slot(11, 0)),
-        (2120, &[1]),
-        (2424, &slot(12, 32)),
-        (2496, &[1]),
-        (2800, &slot(13, 64)),
-        (2872, &[1]),
-        (3176, &slot(14, 96)),
-        (3248, &[1]),
-    ]);
-    let mut monitor = Monitor::new();
-    let homes = [11, 12, 13, 14];
-    monitor.call(0, &Call::Bt { homes }).unwrap();
-    assert_eq!(decode(&by_hand).unwrap().difference(&monitor), None);
-    assert_eq!(encode(&Placed::of(&monitor)), by_hand);
 }
 
 #[test]
@@ -127,21 +96,32 @@ fn a_sample_by_hand() {
 /// which it does not.
 type Bound = (usize, &'static [u8], &'static [u8]);
 
-const BOUNDS: [Bound; 44] = [
+const BOUNDS: [Bound; 54] = [
     // Base and pages; pages 42 to 63 are the other object's.
     (OBJECT, &[], &[39]),
     (OBJECT + 1, &[], &[0, 1, 3]),
     (NEXT, &[], &[0, 31, 41, 43]),
     (NEXT + 1, &[21], &[0, 23, 255]),
     // Free places of objects.
-    (512, &[], &[1]),
-    (512 + 2, &[], &[1]),
-    (512 + 63, &[], &[1]),
-    (512 + 10, &[], &[15]),
+    (ESTATE, &[], &[1]),
+    (ESTATE + 2, &[], &[1]),
+    (ESTATE + 63, &[], &[1]),
+    (ESTATE + 64, &[], &[1, 3]),
+    (ESTATE + 10, &[], &[15]),
     (0, &[], &[1]),
     (1, &[1, 32], &[33]),
-    (513, &[], &[1]),
-    (2047, &[], &[1]),
+    (ESTATE + 1, &[], &[1]),
+    (2079, &[], &[1]),
+    // Accounts.
+    (OBJECT + 64, &[0, 2], &[4, 7, 255]),
+    (NEXT + 64, &[3], &[4, 128]),
+    (LIMIT, &[0, 1, 127], &[129, 255]),
+    (LIMIT + 1, &[1, 128], &[129]),
+    (LIMIT + 3, &[0, 128], &[129, 255]),
+    (SET, &[0, 15], &[16, 26, 255]),
+    (SET + 1, &[1, 15], &[16, 128]),
+    (SET + 2, &[8], &[32]),
+    (SET + 3, &[0, 14], &[16, 31, 255]),
     // Passwords and modes.
     (OBJECT + 3, &[0], &[]),
     (OBJECT + 9, &[255], &[]),
@@ -208,35 +188,6 @@ fn each_bound_by_itself() {
         }
         for &byte in does_not {
             changed(at, byte, false);
-        }
-    }
-}
-
-/// Word 0 may be an entry, also more than once, and no entries are too few.
-#[test]
-fn entries_of_zero() {
-    for count in 0..=5 {
-        let image = image(&[(0, &[0, 1]), (38, &[5]), (55, &[count])]);
-        let entries = decode(&image).map(|state| {
-            let object = &state.objects()[0];
-            object.registration.as_ref().unwrap().entries.clone()
-        });
-        let wanted = (1..=4).contains(&count);
-        assert_eq!(entries, wanted.then(|| vec![0; count.into()]), "{count}");
-    }
-}
-
-/// Every state of generated runs is written and read as itself.
-#[test]
-fn generated_states() {
-    for seed in 200..206 {
-        let mut monitor = Monitor::new();
-        for (domain, call) in calls(&inputs::input(seed, 2_000)) {
-            let _ = monitor.call(domain, &call);
-            let state = Placed::of(&monitor);
-            let again = decode(&encode(&state));
-            assert_eq!(again.as_ref(), Some(&state), "{call:?} by {domain}");
-            assert_eq!(state.difference(&monitor), None);
         }
     }
 }

@@ -2,7 +2,7 @@
 
 use refmonitor::coverage::{situations, Coverage, TABLE};
 use refmonitor::inputs;
-use refmonitor::lines::calls;
+use refmonitor::lines::{calls, BOOT};
 use refmonitor::monitor::*;
 use std::ops::Range;
 
@@ -34,7 +34,7 @@ fn every_answer_situation_and_bound() {
 #[test]
 fn what_is_missing_is_told() {
     let mut coverage = Coverage::new();
-    coverage.run(b"0,BT,11,12,13,14\n0,RD,0\n0,RD,8192\n");
+    coverage.run(format!("{BOOT}\n0,RD,0\n0,RD,8192\n").as_bytes());
     let missing = coverage.missing();
     let told = |what: &str| missing.iter().any(|m| m == what);
     assert!(!told("RD with answer 0") && told("RD with answer 7"));

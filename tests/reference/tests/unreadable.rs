@@ -1,9 +1,9 @@
 //! Every form of an unreadable line, and lines that are only just readable.
 
-use refmonitor::damage::{damage, register_line, FORMS};
+use refmonitor::damage::{boot_line, damage, register_line, FORMS};
 use refmonitor::generate::Line;
 use refmonitor::inputs;
-use refmonitor::lines::{number, read, run_bytes, LETTERS};
+use refmonitor::lines::{number, read, run_bytes, BOOT, LETTERS};
 use refmonitor::random::Random;
 
 fn output(input: &[u8]) -> String {
@@ -12,7 +12,7 @@ fn output(input: &[u8]) -> String {
 
 /// The answer and value of a line after a boot.
 fn answer(line: &[u8]) -> String {
-    let mut input = b"0,BT,11,12,13,14\n".to_vec();
+    let mut input = format!("{BOOT}\n").into_bytes();
     input.extend_from_slice(line);
     input.push(b'\n');
     let output = output(&input);
@@ -46,7 +46,7 @@ fn every_form_of_damage() {
 fn field_counts() {
     // Only RG is readable with more than its fields.
     for (letters, count) in LETTERS {
-        for have in 0..12 {
+        for have in 0..20 {
             let line = Line::new(0, letters, &vec![1; have]).bytes();
             let readable = have == count || letters == "RG" && have > 4;
             assert_eq!(read(&line).is_some(), readable, "{letters} {have}");
@@ -61,6 +61,14 @@ fn two_hundred_bytes() {
         assert_eq!(line.len(), length);
         assert!(read(&line).is_some(), "{length}");
     }
+    for length in 36..=200 {
+        let line = boot_line(length);
+        assert_eq!(line.len(), length);
+        assert!(read(&line).is_some(), "{length}");
+    }
+    assert_eq!(answer(&boot_line(200)), "5,0");
+    assert_eq!(answer(&boot_line(201)), "1,0");
+    assert_eq!(answer(&boot_line(340)), "1,0");
     assert_eq!(answer(&register_line(200)), "5,0");
     assert_eq!(answer(&register_line(201)), "1,0");
     assert_eq!(answer(&register_line(202)), "1,0");

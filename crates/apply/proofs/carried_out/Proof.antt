@@ -9,13 +9,13 @@ carried-out-spec =
     (tie.spec (λ c. search needs) (λ c. search needs)
     (λ c. search needs) (λ c κs. search needs) (λ c κs. search needs) (λ c. search needs)
     (λ c.
-    let p = c .before .before .before .before .before .before .before .before .before .before .before .before .pre in
+    let p = c .before .before .before .before .before .before .before .before .before .before .before .before .before .pre in
     rw (c .before .before .before .before .before .before .call .given .1, c .answered .ensures) (c .before .before .before .access .ensures _ _ (record { long = p .0; known = p .1 }) refl refl))
     (λ c. search needs) (λ c κs. search needs) (λ c κs. search needs) (λ c. search needs)
     (λ c.
-    let p = c .before .before .before .before .before .before .before .before .before .before .before .before .pre in
-    rw (c .before .before .before .before .before .before .call2 .given .1, c .put-estate .ensures) (c .before .before .before .object-call .ensures _ (record { long = p .0; known = p .1 }) refl refl))
+    let p = c .before .before .before .before .before .before .before .before .before .before .before .before .before .pre in
+    rw (c .before .before .before .before .before .before .call2 .given .1, c .put-estate .ensures) (c .before .before .before .object-call .ensures _ (record { long = p .0; known = p .1 }) refl refl refl))
     (λ c. search needs) (λ c κs. search needs) (λ c κs. search needs) (λ c. search needs)
     (λ c.
-    let p = c .before .before .before .before .before .before .before .before .before .before .pre in
+    let p = c .before .before .before .before .before .before .before .before .before .before .before .pre in
     rw (c .before .before .before .before .call3 .given .1, c .put-domain .ensures) (c .before .domain-call .ensures _ _ (record { long = p .0; known = p .1 }) refl refl)))

@@ -10,10 +10,14 @@ booted-spec =
     (tie.spec (λ c κs. search needs) (λ c κs. search needs) (λ c κs. search needs)
     (λ c.
     let h = c .before .before .before in
-    rw (sym (h .homes-ok .ensures) ∙ not-true (h .homes-ok .result) (c .before .before .if1 .taken)) (rw (c .answered .ensures, c .before .empty-state .ensures)))
-    (λ c κs. search needs) (λ c κs. search needs) (λ c κs. search needs) (λ c. search needs)
+    rw (sym (h .plan-ok .ensures) ∙ not-true (h .plan-ok .result) (c .before .before .if1 .taken)) (rw (c .answered .ensures, c .before .empty-state .ensures)))
+    (λ c κs. search needs)
+    (λ c κs.
+    let h = c .before .before .before .before .before in
+    sym (h .plan-ok .ensures) ∙ not-false (h .plan-ok .result) (c .before .before .before .before .if1 .left))
+    (λ c κs. search needs) (λ c. search needs)
     (λ c.
     let w = c .before .before .before .before in
     let h = w .before .before .before in
-    rw (sym (h .homes-ok .ensures) ∙ not-false (h .homes-ok .result) (w .before .before .if1 .left))
+    rw (sym (h .plan-ok .ensures) ∙ not-false (h .plan-ok .result) (w .before .before .if1 .left))
     (rw (c .answered2 .ensures, c .before .boot-state .ensures, w .boot-words .ensures))))

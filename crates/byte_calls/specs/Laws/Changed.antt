@@ -9,11 +9,12 @@ use lib.Dec.{leb, ltb, eqb}
 use lib.ListN.{length, getD, take, drop, replicate, length-append, length-take, length-replicate, List·getD-append}
 use lib.Seq.{getD-set-other, getD-take, getD-drop, getD-append-add}
 use borrow.Author.Tests.{leb-true, leb-false, ltb-true, lt-leb}
+use Rattle.bounded.specs.Bools.{and-left}
 use Rattle.soundness.specs.Laws.Tests.{all4}
 use Rattle.judge.specs.Judged.{judged}
 use Rattle.calls.specs.View.{World, View}
 use Rattle.calls.specs.Changes.{zeroed, applyAll}
-use Rattle.calls.specs.Rule.{isPage}
+use Rattle.calls.specs.Rule.{isPage, isAccount}
 use Rattle.calls.specs.Rules.{rule, inRange, changes, view}
 use Rattle.calls.specs.Step.{step}
 use Rattle.calls.specs.Laws.Passed.{step-cases}
@@ -45,7 +46,7 @@ run-within (OnStore (Write a x)) = go (leb 8192 a) refl
     go false e = omega (arith, leb-false 8192 a e)
 run-within (OnStore (Execute a)) = omega arith
 run-within (OnStore (Lookup a r)) = omega arith
-run-within (OnObject (Create p n k)) = go (leb 128 p) (leb 128 n)
+run-within (OnObject (Create p n k a)) = go (leb 128 p) (leb 128 n)
   where
     go : (a b : Bool) → cond a 8192 (cond b 8192 (pageStart (p + n))) ≤ 8192
     go true b = omega arith
@@ -95,11 +96,11 @@ write-beside a x j h b e =
     ⊎-elim (λ l. omega (arith, e, l)) (λ l. omega (arith, e, l)) (rw o at b)
 
 module _ (w : World) (d : ℕ) (v : View) where
-  create-beside : (p n k j : ℕ) → length (w .words) ≡ 8192 → inRange (OnObject (Create p n k)) ≡ true → j < 8192 → Beside (OnObject (Create p n k)) j
-      → getD (applyAll (changes d (OnObject (Create p n k)) v) w .words) j 0 ≡ getD (w .words) j 0
+  create-beside : (p n k a j : ℕ) → length (w .words) ≡ 8192 → inRange (OnObject (Create p n k a)) ≡ true → j < 8192 → Beside (OnObject (Create p n k a)) j
+      → getD (applyAll (changes d (OnObject (Create p n k a)) v) w .words) j 0 ≡ getD (w .words) j 0
   unfolding changes inRange rule
-  create-beside p n k j l r h b =
-      let (page, some, most, word) = all4 (isPage p) (ltb 0 n) (leb n 32) (not (eqb k 0)) r in
+  create-beside p n k a j l r h b =
+      let (page, some, most, word) = all4 (isPage p) (ltb 0 n) (leb n 32) (not (eqb k 0)) (and-left _ (isAccount a) r) in
       let hp : p < 128 = ltb-true p 128 page in
       let hn : n ≤ 32 = leb-true n 32 most in
       let o : leb 128 p ≡ false = lt-leb 128 p hp in
@@ -113,7 +114,7 @@ module _ (w : World) (d : ℕ) (v : View) where
   words-beside (OnStore (Write a x)) j l r h b = getD-set-other (w .words) a j x 0 (write-beside a x j (ltb-true a 8192 r) b)
   words-beside (OnStore (Execute a)) j l r h b = refl
   words-beside (OnStore (Lookup a x)) j l r h b = refl
-  words-beside (OnObject (Create p n k)) j l r h b = create-beside p n k j l r h b
+  words-beside (OnObject (Create p n k a)) j l r h b = create-beside p n k a j l r h b
   words-beside (OnObject (Delete x)) j l r h b = refl
   words-beside (OnObject (AddPassword x k m)) j l r h b = refl
   words-beside (OnObject (DropPassword x k)) j l r h b = refl
@@ -132,7 +133,7 @@ module _ (w : World) (d : ℕ) (v : View) where
   state-beside (OnStore (Execute a)) e = refl
   state-beside (OnStore (Lookup a x)) e = refl
   state-beside (OnDomain Get) e = refl
-  state-beside (OnObject (Create p n k)) e = absurd (true≢false e)
+  state-beside (OnObject (Create p n k a)) e = absurd (true≢false e)
   state-beside (OnObject (Delete x)) e = absurd (true≢false e)
   state-beside (OnObject (AddPassword x k m)) e = absurd (true≢false e)
   state-beside (OnObject (DropPassword x k)) e = absurd (true≢false e)

@@ -132,8 +132,8 @@ module _ (image store vs : List ℕ) (d : ℕ) (c : Call) (o : Outcome) (ws : Li
       (e ∙ ap (λ r. toldBy (slices image store vs) (r .outcome) (r .words)) (sym is-step))
 
 -- BT on an image of the length
-module _ (image store vs : List ℕ) (d : ℕ) (homes : List ℕ) (o : Outcome) (ws : List ℕ) (image-long : length image ≡ stateSize)
-    (store-long : length store ≡ 65536) (values-long : length vs ≡ 88) (made : result o ws ≡ boot (words .get store) d homes) where
+module _ (image store vs : List ℕ) (d : ℕ) (plan : List ℕ) (o : Outcome) (ws : List ℕ) (image-long : length image ≡ stateSize)
+    (store-long : length store ≡ 65536) (values-long : length vs ≡ 88) (made : result o ws ≡ boot (words .get store) d plan) where
   pub boot-ready : (ch : Changed) → ch ≡ record { state = true; from = 0; to = 8192 } → length ws ≡ 8192 → Ready (slices image store vs) ws ch o
   unfolding words
   boot-ready ch e l =
@@ -151,7 +151,7 @@ module _ (image store vs : List ℕ) (d : ℕ) (homes : List ℕ) (o : Outcome) 
       nowhere j m (inl x) = omega arith
       nowhere j m (inr x) = omega arith
 
-  pub by-boot : {t : Told} → t ≡ toldBy (slices image store vs) o ws → t ≡ booted (slices image store vs) d homes
+  pub by-boot : {t : Told} → t ≡ toldBy (slices image store vs) o ws → t ≡ booted (slices image store vs) d plan
   unfolding booted
   by-boot {t} e =
       by-result (eqb (length image) stateSize) (slices image store vs) _ store-long values-long (eq-eqb _ stateSize image-long)

@@ -35,6 +35,6 @@ unfolding called
 refused-leaves s d c = checked-leaves _ s _
 
 -- and so a refused BT
-pub refused-boot-leaves : (s : Slices) (d : ℕ) (homes : List ℕ) → Left s (booted s d homes)
+pub refused-boot-leaves : (s : Slices) (d : ℕ) (plan : List ℕ) → Left s (booted s d plan)
 unfolding booted
-refused-boot-leaves s d homes = checked-leaves _ s _
+refused-boot-leaves s d plan = checked-leaves _ s _

@@ -73,4 +73,4 @@ module _ (t : Table) (x : Accounts) (d : ℕ) (f : Frame) (words : List ℕ) (c 
       → y ≡ becoming t b o → Alters t x d f words c y words
   based-done o i l k h =
       alters-done t x d f words c n u (λ m q. l _ (sees m q))
-      (λ m q s. rw (h, i, k _ (sees m q), plain c .zero, plain c .bare))
+      (λ e m q s. rw (h, i, k _ (sees m q), plain c .zero, plain c .bare))

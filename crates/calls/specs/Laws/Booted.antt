@@ -24,7 +24,7 @@ use Rattle.calls.specs.Step.{refused, world, result, doneWith, storeChec
 use Rattle.calls.specs.Boot.{homeOf, accountOf, homeEstate, homeDomain, bootState, homePair, bootWords, booted, planOk, bootedBy, boot}
 use Rattle.calls.specs.Laws.Order.{ascending, AllHold, FailsFirst, none-fails, first-fails, Answering, answers-refused, answers-done}
 use Rattle.calls.specs.Laws.Passed.{Unchanged}
-use Rattle.calls.specs.Laws.Plan.{plan-bounds, in-set-account, boot-accounts-sound}
+use Rattle.calls.specs.Laws.Plan.{plan-bounds, boot-accounts-sound}
 use borrow.Author.Tests.{eq-eqb, lt-ltb}
 use Rattle.calls.specs.Parts.{callerOf}
 use Rattle.calls.specs.Laws.Returns.{caller-known, caller-unknown}
@@ -53,7 +53,7 @@ boot-state-sound plan h =
     (record {
       long-estates = refl;
       long-domains = refl;
-      estate = λ d l. rw (tabulate-at 4 (homeEstate plan) d noEstate l) (home-estate plan d (b .home d l) (in-set-account _ _ (b .own d l)));
+      estate = λ d l. rw (tabulate-at 4 (homeEstate plan) d noEstate l) (home-estate plan d (b .home d l) (b .account d l));
       domain = λ d l. rw (tabulate-at 4 (homeDomain plan) d noDomain l) (home-domain plan d l);
       accounts = boot-accounts-sound plan b;
     })

@@ -56,11 +56,11 @@ AllFit [] = Unit {0}
 AllFit (c ∷ cs) = Fit c × AllFit cs
 
 -- the object with the base, found by a search for rights on it
-abbrev owned : World → Frame → ℕ → ℕ → Option Found
+abbrev pub owned : World → Frame → ℕ → ℕ → Option Found
 owned w f b r = search judged w f (rights (Base b) r)
 
 module _ (w : World) (f : Frame) (b r : ℕ) (h : sound (w .state) ≡ true) (s : isSome (owned w f b r) ≡ true) where
-  found : FoundSound (hasBase b) (w .state) b
+  pub found : FoundSound (hasBase b) (w .state) b
   found = based-sound (w .state) b h (was-granted w f (Base b) r s .pages)
 
   owned-estate : estateOk (estateFound (owned w f b r)) (b / 32) ≡ true

@@ -21,7 +21,7 @@ use Rattle.calls.specs.View.{Want, nothing, rights, View, firstFailing, 
 use Rattle.calls.specs.Changes.{estate, domain}
 use Rattle.calls.specs.Rules.{rule, inRange, unlocked, wanted, presented, charged, value, fields, late, changes, view}
 use Rattle.calls.specs.Step.{world, result, done}
-use Rattle.calls.specs.Parts.{unaltered, stays, withAltered, withMoved, Answers, Alters, Moves}
+use Rattle.calls.specs.Parts.{Entered, unaltered, stays, withAltered, withMoved, Answers, Alters, Moves}
 use Rattle.calls.specs.Laws.Returns.{by-range, by-lock, by-late, by-done}
 use Rattle.calls.specs.declared.Call.{Call}
 use Rattle.calls.specs.declared.Call.the-variants.{OnStore, OnObject, OnDomain}
@@ -113,11 +113,11 @@ module _ (t : Table) (x : Accounts) (d : ℕ) (f : Frame) (words : List ℕ) (c 
   -- done: it changes the estate that it hands back, and perhaps zeroes words
   pub alters-done : {words′ : List ℕ} → inRange (OnObject c) ≡ true → unlocked (OnObject c) f ≡ true
       → ((m : Domain) → m .active ≡ f → firstFailing (late d (OnObject c) (viewOf t x words d m (OnObject c))) ≡ none)
-      → ((m : Domain) → m .active ≡ f → (s : State) → result (withAltered s r) words′ ≡ done (world s words) d (OnObject c) (viewOf t x words d m (OnObject c)))
+      → (Entered words d → (m : Domain) → m .active ≡ f → (s : State) → result (withAltered s r) words′ ≡ done (world s words) d (OnObject c) (viewOf t x words d m (OnObject c)))
       → Alters t x d f words c r words′
   alters-done n u l h s e p k q =
       by-done s words d (OnObject c) e n (rw q u) (rw (view-is s words d (OnObject c) t x p k) (l (domainAt s d) q))
-      (rw (view-is s words d (OnObject c) t x p k) (h (domainAt s d) q s))
+      (rw (view-is s words d (OnObject c) t x p k) (h e (domainAt s d) q s))
 
 module _ (t : Table) (m : Domain) (words : List ℕ) (c : DomainCall) {r : Moved} where
   -- a call on the caller's domain: out of range, locked, refused behind that, and done

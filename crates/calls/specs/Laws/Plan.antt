@@ -15,12 +15,18 @@ use Rattle.soundness.specs.Laws.Tests.{all4}
 use Rattle.soundness.specs.Laws.StateParts.{parts-accounts}
 use Rattle.calls.specs.Boot.{homeOf, limitOf, accountOf, setOf, bootAccounts, homePages, homesOk, limitsOk, setsOk, roomOk, planOk}
 
+-- an account in a set is one of the four
+in-set-account : (set a : ℕ) → inSet set a ≡ true → a < 4
+unfolding inSet
+in-set-account set a h = ltb-true a 4 (and-left _ _ h)
+
 -- a plan in range
 pub record PlanBounds (plan : List ℕ) : Type 0 where
   pub home : (d : ℕ) → d < 4 → 0 < homeOf plan d
   pub low : (a : ℕ) → a < 4 → limitOf plan a ≤ 128
   pub small : (d : ℕ) → d < 4 → setOf plan d ≤ 15
   pub own : (d : ℕ) → d < 4 → inSet (setOf plan d) (accountOf plan d) ≡ true
+  pub account : (d : ℕ) → d < 4 → accountOf plan d < 4
   pub room : (a : ℕ) → a < 4 → homePages plan a ≤ limitOf plan a
 
 pub plan-bounds : (plan : List ℕ) → planOk plan ≡ true → PlanBounds plan
@@ -33,13 +39,11 @@ plan-bounds plan h =
       small = λ d l. leb-true _ 15 (and-left _ _ (below-at 4 (λ k. leb (setOf plan k) 15 && inSet (setOf plan k) (accountOf plan k)) sets d l));
       own = λ d l.
           and-right (leb (setOf plan d) 15) _ (below-at 4 (λ k. leb (setOf plan k) 15 && inSet (setOf plan k) (accountOf plan k)) sets d l);
+      account = λ d l.
+          in-set-account _ _
+          (and-right (leb (setOf plan d) 15) _ (below-at 4 (λ k. leb (setOf plan k) 15 && inSet (setOf plan k) (accountOf plan k)) sets d l));
       room = λ a l. leb-true _ _ (below-at 4 (λ k. leb (homePages plan k) (limitOf plan k)) room a l);
     }
-
--- an account in a set is one of the four
-pub in-set-account : (set a : ℕ) → inSet set a ≡ true → a < 4
-unfolding inSet
-in-set-account set a h = ltb-true a 4 (and-left _ _ h)
 
 -- the accounts of such a boot are sound
 pub boot-accounts-sound : (plan : List ℕ) → PlanBounds plan → accountsOk (bootAccounts plan) ≡ true

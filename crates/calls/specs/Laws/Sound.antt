@@ -1,6 +1,6 @@
--- Every call keeps a sound state sound, and the store as long as it is.
+-- Every call keeps a sound state sound, the accounts as they are, and the store as long as it is.
 use Prim.Native.Nat.{ℕ, _+_, _≤_}
-use mathlib.Core.Path.{_≡_, ap, _∙_}
+use mathlib.Core.Path.{_≡_, refl, ap, _∙_}
 use mathlib.Core.Bool.{true}
 use mathlib.Core.List.{List, [], _∷_}
 use mathlib.Core.Logic.{⊎-elim}
@@ -29,7 +29,15 @@ all-sound : (cs : List Change) (w : World) → AllFit cs → sound (w .state) �
 all-sound [] w f h = h
 all-sound (c ∷ cs) w f h = all-sound cs (applyOne c w) (f .1) (one-sound c w (f .0) h)
 
--- and the store as long as it is
+-- no change touches the accounts
+all-accounts : (cs : List Change) (w : World) → applyAll cs w .state .accounts ≡ w .state .accounts
+all-accounts [] w = refl
+all-accounts (word a x ∷ cs) w = all-accounts cs (applyOne (word a x) w)
+all-accounts (zeros a n ∷ cs) w = all-accounts cs (applyOne (zeros a n) w)
+all-accounts (estate e x ∷ cs) w = all-accounts cs (applyOne (estate e x) w)
+all-accounts (domain d m ∷ cs) w = all-accounts cs (applyOne (domain d m) w)
+
+-- and the store stays as long as it is
 pub zeroed-length : (a n : ℕ) (words : List ℕ) → a + n ≤ length words → length (zeroed a n words) ≡ length words
 unfolding zeroed
 zeroed-length a n words l = simp (length-append, length-take, length-replicate, length-drop) (omega arith)
@@ -58,6 +66,10 @@ module _ (w : World) (d : ℕ) (c : Call) where
   -- and so with check 3 left out
   pub unchecked-sound : sound (w .state) ≡ true → sound (unchecked w d c .outcome .state) ≡ true
   unchecked-sound h = ⊎-elim (λ e. refuses-sound _ e h) (λ e. does-sound _ e h) (unchecked-cases w d c)
+
+  -- NO CALL CHANGES A LIMIT OR A SET
+  pub step-accounts : step w d c .outcome .state .accounts ≡ w .state .accounts
+  step-accounts = ⊎-elim (λ e. rw (e .1)) (λ e. rw (e .1 .1) (all-accounts (changes d c (view judged w d c)) w)) (step-cases w d c)
 
   -- NO CALL CHANGES THE STORE'S LENGTH
   pub length-kept : length (step w d c .words) ≡ length (w .words)

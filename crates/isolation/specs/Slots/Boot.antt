@@ -5,9 +5,9 @@ use mathlib.Core.Bool.{true}
 use mathlib.Core.List.{List}
 use mathlib.Core.Option.{Option, none, some}
 use native.Mathlib.Omega.{arith}
-use lib.ListN.{getD, replicate, getD-replicate}
+use lib.ListN.{getD-replicate}
 use Rattle.bounded.specs.Fill.{tabulate-at}
-use Rattle.state.specs.Places.{noObject, noEstate, noDomain, freeObject, emptyEstate, emptyDomain}
+use Rattle.state.specs.Places.{noEstate, noDomain, emptyEstate, emptyDomain}
 use Rattle.state.specs.Update.{onlyList, newObject}
 use Rattle.calls.specs.View.{firstFailing}
 use Rattle.calls.specs.Boot.{homeEstate, homeDomain, bootState, booted, boot}
@@ -15,43 +15,40 @@ use Rattle.calls.specs.Laws.Booted.{bootChecks}
 use Rattle.calls.specs.declared.Refusal.{Refusal}
 use Rattle.isolation.specs.Members.{member-below}
 use Rattle.isolation.specs.Group.{Group, member}
+use Rattle.isolation.specs.Kept.{free-each}
 use Rattle.isolation.specs.Slots.Inside.{DomainIn, ObjectIn, EstateIn, StateIn}
+use Rattle.isolation.specs.Slots.Objects.{free-in, none-in}
 use Rattle.isolation.specs.Slots.Frames.{only-in}
 
 module _ (G : Group) where
   -- a home
-  home-in : (homes : List ℕ) (d : ℕ) → member G d ≡ true → DomainIn G (homeDomain homes d)
+  home-in : (plan : List ℕ) (d : ℕ) → member G d ≡ true → DomainIn G (homeDomain plan d)
   unfolding homeDomain onlyList
-  home-in homes d m =
+  home-in plan d m =
       record {
         active = only-in G _ (let e : 32 * d / 32 ≡ d = omega arith in rw e m);
         saved = λ k l. absurd (omega arith);
       }
 
-  -- no registration stands in a list of objects without one
-  none-in : (n k : ℕ) → ObjectIn G (getD (replicate n freeObject) k noObject)
-  none-in ℕ.zero k p = absurd (omega arith)
-  none-in (suc n) ℕ.zero p = absurd (omega arith)
-  none-in (suc n) (suc k) p = none-in n k p
-
-  house-in : (homes : List ℕ) (d : ℕ) → EstateIn G (homeEstate homes d)
+  -- its object, and the free places beside it
+  house-in : (plan : List ℕ) (d : ℕ) → EstateIn G (homeEstate plan d)
   unfolding homeEstate newObject
-  house-in homes d ℕ.zero p = absurd (omega arith)
-  house-in homes d (suc k) p = none-in 7 k p
+  house-in plan d ℕ.zero = λ p. absurd (omega arith)
+  house-in plan d (suc k) = free-each (ObjectIn G) (free-in G) (none-in G) 7 k
 
-  pub boot-in : (words : List ℕ) (d : ℕ) (homes : List ℕ) → StateIn G (boot words d homes .outcome .state)
+  pub boot-in : (words : List ℕ) (d : ℕ) (plan : List ℕ) → StateIn G (boot words d plan .outcome .state)
   unfolding boot bootState
-  boot-in words d homes = go (firstFailing (bootChecks words d homes))
+  boot-in words d plan = go (firstFailing (bootChecks words d plan))
     where
-      go : (o : Option Refusal) → StateIn G (booted homes words o .outcome .state)
+      go : (o : Option Refusal) → StateIn G (booted plan words o .outcome .state)
       go none =
           record {
-            domains = λ d m. rw (tabulate-at 4 (homeDomain homes) d noDomain (member-below G d m)) (home-in homes d m);
-            estates = λ d m. rw (tabulate-at 4 (homeEstate homes) d noEstate (member-below G d m)) (house-in homes d);
+            domains = λ d m. rw (tabulate-at 4 (homeDomain plan) d noDomain (member-below G d m)) (home-in plan d m);
+            estates = λ d m. rw (tabulate-at 4 (homeEstate plan) d noEstate (member-below G d m)) (house-in plan d);
           }
       go (some r) =
           record {
             domains = λ d m. rw (getD-replicate 4 d emptyDomain noDomain (member-below G d m))
                 (record { active = λ k l. absurd (omega arith); saved = λ k l. absurd (omega arith) });
-            estates = λ d m. rw (getD-replicate 4 d emptyEstate noEstate (member-below G d m)) (none-in 8);
+            estates = λ d m. rw (getD-replicate 4 d emptyEstate noEstate (member-below G d m)) (free-each (ObjectIn G) (free-in G) (none-in G) 8);
           }

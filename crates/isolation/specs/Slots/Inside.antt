@@ -3,7 +3,7 @@ use Prim.Native.Nat.{ℕ, _<_}
 use mathlib.Core.Path.{_≡_}
 use mathlib.Core.Bool.{true}
 use Rattle.bounded.specs.Bools.{or-left}
-use Rattle.state.specs.Places.{slotAt, savedAt, objectAt, estateAt, domainAt}
+use Rattle.state.specs.Places.{slotAt, savedAt}
 use Rattle.state.specs.declared.Capability.{Capability}
 use Rattle.state.specs.declared.Object.{Object}
 use Rattle.state.specs.declared.Estate.{Estate}
@@ -13,6 +13,7 @@ use Rattle.state.specs.declared.State.{State}
 use Rattle.calls.specs.View.{World}
 use Rattle.isolation.specs.Group.{Group, member, insidePage}
 use Rattle.isolation.specs.Premises.{staysInside, StatePremise}
+use Rattle.isolation.specs.Kept.{Each, Kept}
 
 module _ (G : Group) where
   -- the slots of a frame, of a domain with its saved ones, and the registered list of an object, name pages inside
@@ -30,12 +31,14 @@ module _ (G : Group) where
   ObjectIn o = 0 < o .registration .password → Page (o .registration .list)
 
   abbrev pub EstateIn : Estate → Type 0
-  EstateIn e = (k : ℕ) → ObjectIn (objectAt e k)
+  EstateIn e = Each ObjectIn e
 
   -- so of every member, and of every object inside
-  pub record StateIn (s : State) : Type 0 where
-    pub domains : (d : ℕ) → member G d ≡ true → DomainIn (domainAt s d)
-    pub estates : (d : ℕ) → member G d ≡ true → EstateIn (estateAt (s .table) d)
+  abbrev pub Member : ℕ → Type 0
+  Member d = member G d ≡ true
+
+  abbrev pub StateIn : State → Type 0
+  StateIn s = Kept Member ObjectIn DomainIn s
 
   -- Then the premise on slots holds.
   pub in-premise : (w : World) → StateIn (w .state) → StatePremise G w

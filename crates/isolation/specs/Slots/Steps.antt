@@ -2,12 +2,11 @@
 use Prim.Native.Nat.{ℕ, _/_, _<_}
 use mathlib.Core.Path.{_≡_, refl, sym, _∙_}
 use mathlib.Core.Bool.{true, true≢false}
-use mathlib.Core.List.{List, [], _∷_}
-use mathlib.Core.Logic.{_⊎_, inl, inr, ⊎-elim}
+use mathlib.Core.Logic.{⊎-elim}
 use native.Mathlib.Omega.{arith}
 use borrow.Author.Tests.{leb-true, lt-ltb}
 use Rattle.bounded.specs.Bools.{flag}
-use Rattle.state.specs.Places.{noEstate, noDomain, freeObject, estateAt, domainAt}
+use Rattle.state.specs.Places.{freeObject, estateAt, domainAt}
 use Rattle.state.specs.Update.{newObject, addPassword, withObject, withActive}
 use Rattle.soundness.specs.Sound.{sound}
 use Rattle.soundness.specs.Laws.DomainParts.{FrameSound, frame-parts, domain-parts}
@@ -18,11 +17,10 @@ use Rattle.judge.specs.Judged.{judged}
 use Rattle.judge.specs.declared.Target.the-variants.{Base}
 use Rattle.calls.specs.Answers.{numberOf}
 use Rattle.calls.specs.View.{rights, World, search, objectOf, estateFound}
-use Rattle.calls.specs.Changes.{Change, word, zeros, estate, domain, capability, registration, applyOne, applyAll}
+use Rattle.calls.specs.Changes.{capability, registration}
 use Rattle.calls.specs.Rules.{touched, wanted, early, view, late, changes}
-use Rattle.calls.specs.Step.{step}
 use Rattle.calls.specs.Runs.{resultOf}
-use Rattle.calls.specs.Laws.Passed.{Passes, Refuses, Does, step-cases}
+use Rattle.calls.specs.Laws.Passed.{Passes}
 use Rattle.calls.specs.declared.Call.{Call}
 use Rattle.calls.specs.declared.Call.the-variants.{OnStore, OnObject, OnDomain}
 use Rattle.calls.specs.declared.Access.the-variants.{Read, Write, Execute, Lookup}
@@ -30,41 +28,13 @@ use Rattle.calls.specs.declared.ObjectCall.the-variants.{Create, Delete, AddPas
 use Rattle.calls.specs.declared.DomainCall.the-variants.{Insert, Remove, Get, Lock, PdxCall, PdxReturn}
 use Rattle.isolation.specs.Group.{Group, member}
 use Rattle.isolation.specs.Premises.{wants, Judges, CallPremise}
+use Rattle.isolation.specs.Kept.{put-each, becomes-each, AllKeep, step-keeps}
 use Rattle.isolation.specs.Seen.{live-inside}
-use Rattle.isolation.specs.Slots.Inside.{FrameIn, DomainIn, ObjectIn, EstateIn, StateIn}
+use Rattle.isolation.specs.Slots.Inside.{FrameIn, DomainIn, ObjectIn, EstateIn, Member, StateIn}
 use Rattle.isolation.specs.Slots.Frames.{insert-in, remove-in, lock-in, entered-in, save-in, restore-in}
-use Rattle.isolation.specs.Slots.Objects.{set-any, drop-in, put-in, found-in, called-in}
+use Rattle.isolation.specs.Slots.Objects.{free-in, none-in, drop-in, called-in}
 
 module _ (G : Group) where
-  -- CHANGES that keep what lies inside
-  abbrev ChangeIn : Change → Type 0
-  ChangeIn (word a x) = Unit {0}
-  ChangeIn (zeros a n) = Unit {0}
-  ChangeIn (estate e x) = member G e ≡ true → EstateIn G x
-  ChangeIn (domain d m) = member G d ≡ true → DomainIn G m
-
-  abbrev AllIn : List Change → Type 0
-  AllIn [] = Unit {0}
-  AllIn (c ∷ cs) = ChangeIn c × AllIn cs
-
-  one-in : (c : Change) (w : World) → ChangeIn c → StateIn G (w .state) → StateIn G (applyOne c w .state)
-  one-in (word a x) w p i = i
-  one-in (zeros a n) w p i = i
-  one-in (estate e x) w p i =
-      record {
-        domains = i .domains;
-        estates = λ d m. set-any (EstateIn G) (w .state .table .estates) e d x noEstate (λ z. p (rw z at m)) (i .estates d m);
-      }
-  one-in (domain e x) w p i =
-      record {
-        domains = λ d m. set-any (DomainIn G) (w .state .domains) e d x noDomain (λ z. p (rw z at m)) (i .domains d m);
-        estates = i .estates;
-      }
-
-  all-in : (cs : List Change) (w : World) → AllIn cs → StateIn G (w .state) → StateIn G (applyAll cs w .state)
-  all-in [] w p i = i
-  all-in (c ∷ cs) w p i = all-in cs (applyOne c w) (p .1) (one-in c w (p .0) i)
-
   module _ (w : World) (d : ℕ) (h : sound (w .state) ≡ true) (i : StateIn G (w .state)) where
     abbrev frame : Frame
     frame = domainAt (w .state) d .active
@@ -80,8 +50,7 @@ module _ (G : Group) where
     -- another object in the place of one that was found
     becomes-in : (b r place : ℕ) (o : Object) → (ObjectIn G (objectOf (search judged w frame (rights (Base b) r))) → member G (b / 32) ≡ true → ObjectIn G o)
         → member G (b / 32) ≡ true → EstateIn G (withObject (estateFound (search judged w frame (rights (Base b) r))) place o)
-    becomes-in b r place o p m =
-        let q = found-in G w frame b r (i .estates (b / 32) m) in put-in G (estateFound (search judged w frame (rights (Base b) r))) place o (p (q .1) m) (q .0)
+    becomes-in b r place o p m = becomes-each (ObjectIn G) (free-in G) (none-in G) w frame b r place o (λ q. p q m) (i .estates (b / 32) m)
 
     -- a call that passes gets as far as judging
     judges : (c : Call) → Passes w d c → wants (wanted c) ≡ true → Judges w (record { domain = d; call = c })
@@ -90,13 +59,13 @@ module _ (G : Group) where
 
     -- of a done call
     done-in : (c : Call) → CallPremise G w (record { domain = d; call = c }) → numberOf (resultOf w (record { domain = d; call = c }) .outcome .answer) ≡ 0
-        → Passes w d c → AllIn (changes d c (view judged w d c))
+        → Passes w d c → AllKeep (Member G) (ObjectIn G) (DomainIn G) (changes d c (view judged w d c))
     unfolding changes view late registration newObject addPassword touched
     done-in (OnStore (Read a)) p z s = tt
     done-in (OnStore (Write a x)) p z s = (tt, tt)
     done-in (OnStore (Execute a)) p z s = tt
     done-in (OnStore (Lookup a r)) p z s = tt
-    done-in (OnObject (Create a n k)) p z s = (λ m. put-in G (estateAt (w .state .table) d) _ (newObject a n k) (λ q. absurd (omega arith)) (i .estates d m), (tt, tt))
+    done-in (OnObject (Create a n k u)) p z s = (λ m. put-each (ObjectIn G) (estateAt (w .state .table) d) _ (newObject a n k u) (λ q. absurd (omega arith)) (i .estates d m), (tt, tt))
     done-in (OnObject (Delete b)) p z s = (becomes-in b 8 _ freeObject (λ o m q. absurd (omega arith)), tt)
     done-in (OnObject (AddPassword b k x)) p z s = (becomes-in b 15 _ _ (λ o m. o), tt)
     done-in (OnObject (DropPassword b k)) p z s = (becomes-in b 15 _ _ (λ o m. drop-in G _ k o), tt)
@@ -125,8 +94,4 @@ module _ (G : Group) where
 
     -- so after every call
     pub step-in : (c : Call) → CallPremise G w (record { domain = d; call = c }) → StateIn G (resultOf w (record { domain = d; call = c }) .outcome .state)
-    step-in c p = go (step-cases w d c)
-      where
-        go : Refuses w (step w d c) ⊎ ((sound (w .state) ≡ true) × Does w d c (step w d c)) → StateIn G (step w d c .outcome .state)
-        go (inl (why, e)) = rw e i
-        go (inr (t, (s, e))) = rw e (all-in (changes d c (view judged w d c)) w (done-in c p (rw e) s) i)
+    step-in c p = step-keeps (Member G) (ObjectIn G) (DomainIn G) w d c (done-in c p) i

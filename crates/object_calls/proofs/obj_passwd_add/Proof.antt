@@ -22,21 +22,21 @@ pub obj-passwd-add-spec : {M : Type 1} → statement M
 unfolding rule unlocked late changes
 obj-passwd-add-spec =
     tie.close
-    (tie.spec (λ c κs. search needs) (λ c κs. search needs) (λ c d. alters-range _ d _ _ _ (fails (c .before .before .add-in-range .ensures) (c .before .if1 .taken)) (c .unaltered .ensures))
+    (tie.spec (λ c κs. search needs) (λ c κs. search needs) (λ c u d. alters-range _ u d _ _ _ (fails (c .before .before .add-in-range .ensures) (c .before .if1 .taken)) (c .unaltered .ensures))
     (λ c κs. search needs)
-    (λ c d. let a = c .before .before in alters-lock _ d _ _ _ (holds (a .before .add-in-range .ensures) (a .if1 .left)) (ap not (c .before .if2 .taken)) (c .unaltered2 .ensures))
+    (λ c u d. let a = c .before .before in alters-lock _ u d _ _ _ (holds (a .before .add-in-range .ensures) (a .if1 .left)) (ap not (c .before .if2 .taken)) (c .unaltered2 .ensures))
     (λ c κs. search needs) (λ c. search needs)
-    (λ c. search needs) (λ c κs. search needs) (λ c d. let j = c .before .before .before in let p = passed (j .before) in based-late _ d _ _ _ refl (p .0) (p .1) (j .judge .ensures) (c .before .enum-told .given .1)
+    (λ c. search needs) (λ c κs. search needs) (λ c u d. let j = c .before .before .before in let p = passed (j .before) in based-late _ u d _ _ _ refl (p .0) (p .1) (j .judge .ensures) (c .before .enum-told .given .1)
     (λ v s. rw (s .found)) (c .unaltered3 .ensures))
     (λ c κs. search needs) (λ c κs. search needs) (λ c κs. search needs)
-    (λ c d.
+    (λ c u d.
     let h = c .before .before in let g = h .before .before .before in let j = g .before .before in let p = passed (j .before) in
-    based-late _ d _ _ _ refl (p .0) (p .1) (j .judge .ensures) (g .pair .given .1)
+    based-late _ u d _ _ _ refl (p .0) (p .1) (j .judge .ensures) (g .pair .given .1)
     (λ v s. rw (s .found, ← h .before .object-based .ensures, sym (h .has-password .ensures) ∙ c .before .if3 .taken)) (c .unaltered4 .ensures))
     (λ c κs. search needs) (λ c κs. search needs)
-    (λ c d.
+    (λ c u d.
     let k = c .before .before in let h = k .before .before in let g = h .before .before .before in let j = g .before .before in let p = passed (j .before) in
-    based-late _ d _ _ _ refl (p .0) (p .1) (j .judge .ensures) (g .pair .given .1)
+    based-late _ u d _ _ _ refl (p .0) (p .1) (j .judge .ensures) (g .pair .given .1)
     (λ v s. rw (
       s .found,
       ← h .before .object-based .ensures,
@@ -47,9 +47,9 @@ obj-passwd-add-spec =
     (c .unaltered5 .ensures))
     (λ c. omega (arith, add-range _ _ _ (passed (c .before .before .before .before .before .before .before .before .before) .0) .1))
     (λ c κs. search needs) (λ c κs. search needs)
-    (λ c d.
+    (λ c u d.
     let k = c .before .before .before in let h = k .before .before in let g = h .before .before .before in let j = g .before .before in let p = passed (j .before) in
-    based-done _ d _ _ _ refl (p .0) (p .1) (j .judge .ensures) (g .pair .given .1) _ (lt-ltb _ _ (add-range _ _ _ (p .0) .0))
+    based-done _ u d _ _ _ refl (p .0) (p .1) (j .judge .ensures) (g .pair .given .1) _ (lt-ltb _ _ (add-range _ _ _ (p .0) .0))
     (λ v s. rw (
       s .found,
       ← h .before .object-based .ensures,

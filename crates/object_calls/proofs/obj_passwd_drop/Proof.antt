@@ -12,18 +12,18 @@ pub obj-passwd-drop-spec : {M : Type 1} → statement M
 unfolding rule inRange unlocked late changes
 obj-passwd-drop-spec =
     tie.close
-    (tie.spec (λ c κs. search needs) (λ c d. alters-range _ d _ _ _ (le-ltb _ _ (c .before .if1 .taken)) (c .unaltered .ensures)) (λ c κs. search needs) (λ c. search needs) (λ c. search needs) (λ c κs. search needs)
-    (λ c d. let j = c .before .before .before in based-late _ d _ _ _ refl (lt-ltb _ _ (j .before .if1 .left)) refl (j .judge .ensures) (c .before .enum-told .given .1)
+    (tie.spec (λ c κs. search needs) (λ c u d. alters-range _ u d _ _ _ (le-ltb _ _ (c .before .if1 .taken)) (c .unaltered .ensures)) (λ c κs. search needs) (λ c. search needs) (λ c. search needs) (λ c κs. search needs)
+    (λ c u d. let j = c .before .before .before in based-late _ u d _ _ _ refl (lt-ltb _ _ (j .before .if1 .left)) refl (j .judge .ensures) (c .before .enum-told .given .1)
     (λ v s. rw (s .found)) (c .unaltered2 .ensures))
     (λ c κs. search needs) (λ c κs. search needs) (λ c κs. search needs)
-    (λ c d.
+    (λ c u d.
     let h = c .before .before in let g = h .before .before .before in let j = g .before .before in
-    based-late _ d _ _ _ refl (lt-ltb _ _ (j .before .if1 .left)) refl (j .judge .ensures) (g .pair .given .1)
+    based-late _ u d _ _ _ refl (lt-ltb _ _ (j .before .if1 .left)) refl (j .judge .ensures) (g .pair .given .1)
     (λ v s. rw (s .found, ← h .before .object-based .ensures, fails (h .has-password .ensures) (c .before .if2 .taken))) (c .unaltered3 .ensures))
     (λ c κs. search needs) (λ c κs. search needs)
-    (λ c d.
+    (λ c u d.
     let h = c .before .before .before in let g = h .before .before .before in let j = g .before .before in
     let n = lt-ltb _ _ (j .before .if1 .left) in
-    based-done _ d _ _ _ refl n refl (j .judge .ensures) (g .pair .given .1) _ n
+    based-done _ u d _ _ _ refl n refl (j .judge .ensures) (g .pair .given .1) _ n
     (λ v s. rw (s .found, ← h .before .object-based .ensures, holds (h .has-password .ensures) (c .before .before .if2 .left)))
     (λ v s. rw (s .found, ← h .before .object-based .ensures, ← c .before .drop-password .ensures)) (c .becomes .ensures)))

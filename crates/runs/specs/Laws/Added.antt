@@ -32,7 +32,8 @@ use Rattle.calls.specs.Step.{step}
 use Rattle.calls.specs.Laws.Passed.{Passes, Refuses, Does, step-cases}
 use Rattle.calls.specs.Laws.Searched.{was-granted}
 use Rattle.calls.specs.Laws.Locks.{whole-passes}
-use Rattle.calls.specs.Laws.Places.Objects.{create-pages, new-home, new-first, replaced}
+use Rattle.calls.specs.Laws.Fit.{create-range}
+use Rattle.calls.specs.Laws.Places.Objects.{new-home, new-first, replaced}
 use Rattle.calls.specs.declared.Call.{Call}
 use Rattle.calls.specs.declared.Call.the-variants.{OnStore, OnObject, OnDomain}
 use Rattle.calls.specs.declared.Access.the-variants.{Read, Write, Execute, Lookup}
@@ -107,11 +108,11 @@ module _ (w : World) (d : ℕ) (h : WholeLocked d w) where
   own-adds (OnStore (Write a x)) s p = adds-none _
   own-adds (OnStore (Execute a)) s p = adds-none _
   own-adds (OnStore (Lookup a r)) s p = adds-none _
-  own-adds (OnObject (Create a n k)) s p =
-      let o = newObject a n k in
-      let pages = create-pages a n k (p .range) in
-      created-adds (w .state) s d _ o (p .domain) (new-home a n k d pages (and-left (liesIn o d) _ (p .rest .0))) pages
-      (new-first (w .state .table) d o (and-right (liesIn o d) _ (p .rest .0)) (p .rest .1 .0))
+  own-adds (OnObject (Create a n k u)) s p =
+      let o = newObject a n k u in
+      let pages = create-range a n k u (p .range) .pages in
+      created-adds (w .state) s d _ o (p .domain) (new-home a n k u d pages (and-left (liesIn o d) _ (p .rest .0))) pages
+      (new-first (w .state .table) d o (and-right (liesIn o d) _ (p .rest .0)) (p .rest .1 .1 .1 .0))
   own-adds (OnObject (Delete b)) s p =
       let g = was-granted w (domainAt (w .state) d .active) (Base b) 8 (p .rest .0) in
       rw (g .judgement) (replaced-adds (w .state) s b freeObject (g .pages) (λ x. absurd (omega arith)) (within-free _))

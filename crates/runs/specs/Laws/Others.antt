@@ -29,7 +29,7 @@ module _ (w : World) (e d : ℕ) (v : View) where
 
   pub object-leaves : (c : ObjectCall) → domainAt (applyAll (changes e (OnObject c) v) w .state) d ≡ domainAt (w .state) d
   unfolding changes
-  object-leaves (Create p n k) = refl
+  object-leaves (Create p n k a) = refl
   object-leaves (Delete b) = refl
   object-leaves (AddPassword b k m) = refl
   object-leaves (DropPassword b k) = refl

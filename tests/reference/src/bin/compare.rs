@@ -1,16 +1,26 @@
-//! `compare PROGRAM [SEEDS] [LINES] [FIRST]`: another program against this
-//! one. Status 1 for a difference, and where the generated lines did not reach
-//! all that they should.
+//! `compare [--accounts] PROGRAM [SEEDS] [LINES] [FIRST]`: another call program,
+//! or another program `accounts`, against this one. Status 1 for a difference,
+//! and where the generated lines did not reach all that they should.
 
-use refmonitor::compare::{self, Compared, Plan, Ran};
+use refmonitor::compare::{self, Compared, Plan, Ran, Reference, ANSWERS, FIGURES};
 use std::process::ExitCode;
 use std::time::Duration;
 
 /// How long differing inputs are shortened, at most.
 const SHRINKING: Duration = Duration::from_secs(40);
 
+/// What the first word asks for, if it is an option.
+fn reference(args: &mut Vec<String>) -> Reference {
+    if args.first().is_some_and(|word| word == "--accounts") {
+        args.remove(0);
+        return FIGURES;
+    }
+    ANSWERS
+}
+
 fn main() -> ExitCode {
-    let args: Vec<String> = std::env::args().skip(1).collect();
+    let mut args: Vec<String> = std::env::args().skip(1).collect();
+    let reference = reference(&mut args);
     let numbers: Option<Vec<u64>> = args.iter().skip(1).map(|a| a.parse().ok()).collect();
     let number = |i: usize, default| match &numbers {
         Some(numbers) => numbers.get(i).copied().unwrap_or(default),
@@ -23,7 +33,7 @@ fn main() -> ExitCode {
     };
     let all = plan.seeds > 0 && plan.lines > 0 && plan.first > 0 && args.len() < 5;
     let (Some(program), true) = (args.first(), all) else {
-        eprintln!("usage: compare PROGRAM [SEEDS] [LINES] [FIRST]");
+        eprintln!("usage: compare [--accounts] PROGRAM [SEEDS] [LINES] [FIRST]");
         return ExitCode::from(2);
     };
     let mut run = |input: &[u8], feed| {
@@ -33,7 +43,7 @@ fn main() -> ExitCode {
         })
     };
     let mut tell = |what: &str| println!("{what}");
-    let compared = match compare::search(&mut run, plan, &mut tell) {
+    let compared = match compare::search(reference, &mut run, plan, &mut tell) {
         Ok(compared) => compared,
         Err(found) => {
             println!("looking for the shortest run that shows it");

@@ -1,12 +1,14 @@
-//! `faults PROGRAM`: the program with one read or write that goes wrong, by the
-//! library `examples/fault.rs`. Status 1 where its output is not as it should be.
+//! `faults [--accounts] PROGRAM`: the call program, or the program `accounts`,
+//! with one read or write that goes wrong, by the library `examples/fault.rs`.
+//! Status 1 where its output is not as it should be.
 //!
 //! Behind a write that fails nothing more is written. A call that is
 //! interrupted, would have to wait or moves only a part does not show. A read
 //! that fails otherwise is the end of the input.
 
+use refmonitor::compare::{Reference, ANSWERS, FIGURES};
 use refmonitor::inputs;
-use refmonitor::lines::{run_bytes, HEADER};
+use refmonitor::lines::HEADER;
 use std::env;
 use std::fs::File;
 use std::io::{self, Write};
@@ -26,6 +28,7 @@ const MANY: usize = 50;
 
 /// A program, the library that makes its calls go wrong, and an input in a file.
 struct Bench {
+    reference: Reference,
     program: String,
     library: PathBuf,
     file: PathBuf,
@@ -64,8 +67,8 @@ impl Bench {
     }
 
     /// The n-th write fails, for every n: the output is what was written before,
-    /// which is nothing, the header, and then more with each write. Answers how
-    /// many writes there are.
+    /// which is nothing, the header if there is one, and then more with each
+    /// write. Answers how many writes there are.
     fn failed_writes(&self) -> Result<usize, String> {
         let mut before = Vec::new();
         for n in 1..=MANY {
@@ -78,7 +81,8 @@ impl Bench {
                     "{fault}: {got} bytes, which are no beginning of the output of more than {had} bytes"
                 ));
             }
-            if n == 1 && !output.is_empty() || n == 2 && output != HEADER.as_bytes() {
+            let header = self.whole.starts_with(HEADER.as_bytes());
+            if n == 1 && !output.is_empty() || n == 2 && header && output != HEADER.as_bytes() {
                 return Err(format!("{fault}: not what was written before"));
             }
             if output == self.whole {
@@ -92,9 +96,15 @@ impl Bench {
     fn all(&self) -> Result<String, String> {
         self.same("", &self.whole)?;
         let writes = self.failed_writes()?;
-        // The header, each piece once or more often, and the last line.
+        // The answers take the header, each piece once or more often, and the
+        // last line; the figures at least one write.
         let pieces = self.input.len().div_ceil(PIECE);
-        if writes < pieces + 4 {
+        let fewest = if self.reference.beginnings == 0 {
+            pieces + 4
+        } else {
+            1
+        };
+        if writes < fewest {
             return Err(format!("{writes} writes are too few to tell"));
         }
         for with in [EINTR, EAGAIN, "short"] {
@@ -107,7 +117,7 @@ impl Bench {
         }
         for n in 1..=pieces {
             let read = &self.input[..(n - 1) * PIECE];
-            self.same(&format!("read {n} {EIO}"), &run_bytes(read))?;
+            self.same(&format!("read {n} {EIO}"), &(self.reference.output)(read))?;
         }
         Ok(format!(
             "one of {writes} writes or {} reads goes wrong: ok",
@@ -122,15 +132,16 @@ fn library() -> io::Result<PathBuf> {
     path.join("libfault.so").canonicalize()
 }
 
-fn bench(program: &str, file: &Path) -> io::Result<Bench> {
+fn bench(reference: Reference, program: &str, file: &Path) -> io::Result<Bench> {
     // Behind the generated lines empty ones, whose answers fill the buffer
     // several times for one piece, and a last line without its line feed.
     let mut input = inputs::input(1, 10_000);
     input.extend([b'\n'; 40_000]);
     input.extend(b"0,RT");
     File::create(file)?.write_all(&input)?;
-    let whole = run_bytes(&input);
+    let whole = (reference.output)(&input);
     Ok(Bench {
+        reference,
         program: program.into(),
         library: library()?,
         file: file.into(),
@@ -141,12 +152,17 @@ fn bench(program: &str, file: &Path) -> io::Result<Bench> {
 
 fn main() -> ExitCode {
     let args: Vec<String> = env::args().skip(1).collect();
-    let [program] = &args[..] else {
-        eprintln!("usage: faults PROGRAM");
-        return ExitCode::from(2);
+    let words: Vec<&str> = args.iter().map(String::as_str).collect();
+    let (reference, program) = match words[..] {
+        ["--accounts", program] => (FIGURES, program),
+        [program] => (ANSWERS, program),
+        _ => {
+            eprintln!("usage: faults [--accounts] PROGRAM");
+            return ExitCode::from(2);
+        }
     };
     let file = env::temp_dir().join(format!("faults-{}", std::process::id()));
-    let told = bench(program, &file)
+    let told = bench(reference, program, &file)
         .map_err(|e| e.to_string())
         .and_then(|bench| bench.all());
     drop(std::fs::remove_file(&file));

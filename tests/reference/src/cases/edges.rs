@@ -13,7 +13,7 @@ pub(super) const EDGES: &[Written] = &[
     (
         "edge: the end of an estate",
         Start::Listing,
-        &[("0,CR,31,2,9", "9,0"), ("0,CR,31,1,9", "0,0")],
+        &[("0,CR,31,2,9,0", "9,0"), ("0,CR,31,1,9,0", "0,0")],
     ),
     (
         "edge: a locked slot",

@@ -28,8 +28,8 @@ pub(super) const ENDS: &[Written] = &[
         "end: a pair behind a zero pair does not deny",
         Start::Boot,
         &[
-            ("0,CR,1,1,21", "0,0"),
-            ("0,CR,2,1,31", "0,0"),
+            ("0,CR,1,1,21,0", "0,0"),
+            ("0,CR,2,1,31,0", "0,0"),
             ("0,WR,2,256", "0,0"),
             ("0,WR,3,21", "0,0"),
             ("0,WR,4,512", "0,0"),

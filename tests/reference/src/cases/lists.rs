@@ -1,6 +1,7 @@
 //! Clists that fill their objects, of one page and of two.
 
-use super::{Case, BOOT};
+use super::Case;
+use crate::lines::BOOT;
 
 pub(super) fn lists() -> Vec<Case> {
     vec![full_page(), second_page()]
@@ -17,7 +18,7 @@ fn add(case: &mut Case, lines: &[(&str, &str)]) {
 fn list_of(name: &str, pages: u64) -> Case {
     let mut case = Case::new(name);
     case.line(BOOT.as_bytes(), "0,0");
-    case.line(format!("0,CR,1,{pages},21").as_bytes(), "0,0");
+    case.line(format!("0,CR,1,{pages},21,0").as_bytes(), "0,0");
     add(
         &mut case,
         &[
@@ -58,7 +59,7 @@ fn full_page() -> Case {
             ("0,LK,2048,15", "0,126"),
             ("0,RD,2048", "0,8207"),
             // The page behind it is no part of it.
-            ("0,CR,2,1,31", "0,0"),
+            ("0,CR,2,1,31,0", "0,0"),
             ("0,WR,4,512", "0,0"),
             ("0,WR,5,31", "0,0"),
             ("0,WR,128,16384", "0,0"),

@@ -1,10 +1,12 @@
 //! Inputs whose whole output is written out: the paper's listing, its edges
-//! and its traps, the readings, the ends of Clists, the whole lock, and lines
-//! that cannot be read.
+//! and its traps, the readings, the ends of Clists, the whole lock, accounts,
+//! and lines that cannot be read; and inputs of the program `accounts`.
 
+mod accounts;
 mod boots;
 mod edges;
 mod ends;
+mod figures;
 mod lists;
 mod objects;
 mod passwords;
@@ -13,17 +15,18 @@ mod slots;
 mod unreadable;
 mod whole_lock;
 
+pub use figures::figures;
 pub use unreadable::unreadable;
 
-use crate::lines::HEADER;
+use crate::lines::{BOOT, HEADER};
 
 /// The paper's listing, to the byte.
 pub const LISTING: &str = "\
-0,BT,11,12,13,14
+0,BT,11,12,13,14,128,128,128,128,0,15,0,15,0,15,0,15
 0,RD,0
 1,RD,2048
 0,RD,2048
-0,CR,1,1,21
+0,CR,1,1,21,0
 0,RD,64
 0,WR,2,256
 0,WR,3,21
@@ -48,11 +51,9 @@ line,answer,value
 11,0,1,0,0,0
 ";
 
-const BOOT: &str = "0,BT,11,12,13,14";
-
 /// Domain 1 registers an entry in its page 33; domain 0 gets the password.
 const SERVICE: [(&str, &str); 6] = [
-    ("1,CR,33,1,31", "0,0"),
+    ("1,CR,33,1,31,0", "0,0"),
     ("1,WR,2050,8448", "0,0"),
     ("1,WR,2051,31", "0,0"),
     ("1,RG,33,32,32,12,2112", "0,0"),
@@ -104,22 +105,30 @@ enum Start {
 /// lines, each with its answer and value.
 type Written = (&'static str, Start, &'static [(&'static str, &'static str)]);
 
+impl Start {
+    /// The lines of the start and their answers.
+    fn case(&self, name: &str) -> Case {
+        let mut case = Case::new(name);
+        match self {
+            Start::Nothing => {}
+            Start::Boot => case.line(BOOT.as_bytes(), "0,0"),
+            Start::Listing | Start::Service => {
+                case.input = LISTING.into();
+                case.output = ANSWERS.into();
+            }
+        }
+        if matches!(self, Start::Service) {
+            for (line, answer) in SERVICE {
+                case.line(line.as_bytes(), answer);
+            }
+        }
+        case
+    }
+}
+
 /// The case with its whole input and output.
 fn whole((name, start, calls): &Written) -> Case {
-    let mut case = Case::new(name);
-    match start {
-        Start::Nothing => {}
-        Start::Boot => case.line(BOOT.as_bytes(), "0,0"),
-        Start::Listing | Start::Service => {
-            case.input = LISTING.into();
-            case.output = ANSWERS.into();
-        }
-    }
-    if matches!(start, Start::Service) {
-        for (line, answer) in SERVICE {
-            case.line(line.as_bytes(), answer);
-        }
-    }
+    let mut case = start.case(name);
     for (line, answer) in *calls {
         case.line(line.as_bytes(), answer);
     }
@@ -127,7 +136,7 @@ fn whole((name, start, calls): &Written) -> Case {
 }
 
 /// The listing, the cases around the edges, the traps, the readings, the whole
-/// lock and the ends of Clists.
+/// lock, the ends of Clists and the accounts.
 pub fn paper() -> Vec<Case> {
     let groups = [
         edges::EDGES,
@@ -140,12 +149,14 @@ pub fn paper() -> Vec<Case> {
         objects::ESTATES,
         ranges::RANGES,
         ends::ENDS,
+        accounts::ACCOUNTS,
+        accounts::BOOT_ACCOUNTS,
     ];
     let written = groups.into_iter().flatten().map(whole);
     written.chain(lists::lists()).collect()
 }
 
-/// All cases.
+/// All cases of the call program.
 pub fn all() -> Vec<Case> {
     let mut cases = paper();
     cases.extend(unreadable());

@@ -1,13 +1,13 @@
 //! Lines that cannot be read.
 
-use super::{Case, BOOT};
-use crate::damage::{damage, register_line, FORMS};
+use super::Case;
+use crate::damage::{boot_line, damage, register_line, FORMS};
 use crate::generate::Line;
-use crate::lines::LETTERS;
+use crate::lines::{BOOT, LETTERS};
 use crate::random::Random;
 
 /// Lines that cannot be read, by hand.
-const UNREADABLE: [&[u8]; 64] = [
+const UNREADABLE: [&[u8]; 68] = [
     b"",
     b",",
     b"0",
@@ -27,7 +27,11 @@ const UNREADABLE: [&[u8]; 64] = [
     b"0,WR,0",
     b"0,WR,0,0,0",
     b"0,BT,1,2,3",
-    b"0,BT,1,2,3,4,5",
+    b"0,BT,1,2,3,4",
+    b"0,BT,1,2,3,4,128,128,128,128,0,15,0,15,0,15,0",
+    b"0,BT,1,2,3,4,128,128,128,128,0,15,0,15,0,15,0,15,0",
+    b"0,CR,1,1,21",
+    b"0,CR,1,1,21,0,0",
     b"0,RG",
     b"0,RG,1,2,3",
     b"0,RG,1,2,3,4,",
@@ -103,6 +107,9 @@ fn by_hand() -> Case {
         case.line(&line, "1,0");
     }
     case.line(&register_line(200), "5,0");
+    for (length, answer) in [(199, "5,0"), (200, "5,0"), (201, "1,0"), (340, "1,0")] {
+        case.line(&boot_line(length), answer);
+    }
     case.line(b"0,GT", "0,1,0,0,0");
     case
 }
@@ -122,7 +129,7 @@ fn every_form(letters: &'static str, count: usize, random: &mut Random) -> Case 
         }
     }
     // Only RG is readable with more than its fields.
-    for have in (0..12).filter(|&have| have != count) {
+    for have in (0..20).filter(|&have| have != count) {
         if letters != "RG" || have < count {
             let line = Line::new(0, letters, &vec![1; have]);
             case.line(&line.bytes(), "1,0");

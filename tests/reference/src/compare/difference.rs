@@ -1,14 +1,16 @@
 //! Inputs on which two implementations differ.
 
 use super::program::{Feed, Ran};
+use super::reference::Reference;
 use crate::lines::{self, HEADER};
 
 /// Another implementation: the whole output for an input.
 pub type Other<'a> = &'a mut dyn FnMut(&[u8], Feed) -> Ran;
 
 /// An input on which two implementations differ, and their outputs.
-#[derive(Clone, Debug)]
+#[derive(Clone)]
 pub struct Difference {
+    pub reference: Reference,
     pub name: String,
     pub feed: Feed,
     pub input: Vec<u8>,
@@ -35,7 +37,7 @@ pub fn in_form(input: &[u8], output: &[u8]) -> bool {
         fields.is_some_and(|f| {
             f.len() > 2
                 && f[0] == number as u64
-                && matches!(f[1], 0 | 1 | 4..=12)
+                && matches!(f[1], 0 | 1 | 4..=12 | 14 | 15)
                 && (f[1] == 0 || f[2..] == [0])
         })
     };
@@ -48,6 +50,7 @@ pub fn in_form(input: &[u8], output: &[u8]) -> bool {
 
 /// The difference from the expected output on one input, if there is one.
 pub(super) fn differ_from(
+    reference: Reference,
     other: Other,
     name: &str,
     input: &[u8],
@@ -55,10 +58,11 @@ pub(super) fn differ_from(
     expected: Vec<u8>,
 ) -> Option<Difference> {
     let got = other(input, feed);
-    if got.trouble.is_none() && got.output == expected && in_form(input, &expected) {
+    if got.trouble.is_none() && got.output == expected && (reference.in_form)(input, &expected) {
         return None;
     }
     Some(Difference {
+        reference,
         name: name.to_string(),
         feed,
         input: input.to_vec(),
@@ -68,6 +72,13 @@ pub(super) fn differ_from(
 }
 
 /// The difference from the reference on one input, if there is one.
-pub fn differ(other: Other, name: &str, input: &[u8], feed: Feed) -> Option<Difference> {
-    differ_from(other, name, input, feed, lines::run_bytes(input))
+pub fn differ(
+    reference: Reference,
+    other: Other,
+    name: &str,
+    input: &[u8],
+    feed: Feed,
+) -> Option<Difference> {
+    let expected = (reference.output)(input);
+    differ_from(reference, other, name, input, feed, expected)
 }

@@ -2,10 +2,10 @@
 
 use super::difference::{differ_from, line_count, Difference, Other};
 use super::program::Feed;
-use crate::cases::{self, Case};
+use super::reference::Reference;
+use crate::cases::Case;
 use crate::coverage::Coverage;
 use crate::inputs;
-use crate::lines;
 
 /// How many differing inputs are looked for, at most: of a family, and before
 /// the next family.
@@ -30,6 +30,7 @@ pub struct Compared {
 
 /// A comparison under way.
 struct Search<'a> {
+    reference: Reference,
     other: Other<'a>,
     tell: &'a mut dyn FnMut(&str),
     lines: usize,
@@ -75,15 +76,13 @@ impl Search<'_> {
         }
         let (mut count, mut lines, mut found) = (0, 0, 0);
         for input in inputs {
-            let bytes = &input.bytes;
             count += 1;
-            lines += line_count(bytes);
-            let expected = input.written.unwrap_or_else(|| lines::run_bytes(bytes));
-            let difference = differ_from(self.other, &input.name, bytes, input.feed, expected);
-            found += usize::from(difference.is_some());
-            self.found.extend(difference);
-            if found == ENOUGH {
-                break;
+            lines += line_count(&input.bytes);
+            if self.compare(input) {
+                found += 1;
+                if found == ENOUGH {
+                    break;
+                }
             }
         }
         self.lines += lines;
@@ -91,17 +90,32 @@ impl Search<'_> {
         (self.tell)(&format!("{what}: {count} inputs, {lines} lines{differs}"));
     }
 
+    /// Compare on an input, and on beginnings of it; true for a difference.
+    fn compare(&mut self, input: Input) -> bool {
+        let reference = self.reference;
+        let mut written = input.written;
+        let inputs = match input.feed {
+            Feed::Pieces(_) => vec![input.bytes],
+            _ => reference.inputs(input.bytes),
+        };
+        for bytes in inputs {
+            let expected = written.take().unwrap_or_else(|| (reference.output)(&bytes));
+            let (name, feed) = (&input.name, input.feed);
+            let difference = differ_from(reference, self.other, name, &bytes, feed, expected);
+            if difference.is_some() {
+                self.found.extend(difference);
+                return true;
+            }
+        }
+        false
+    }
+
     fn written_cases(&mut self) {
-        let cases = cases::paper().into_iter();
-        self.family(
-            "the paper's cases, answers written out",
-            cases.map(|case| Input::case(case, Feed::Pipe)),
-        );
-        let cases = cases::unreadable().into_iter();
-        self.family(
-            "every unreadable form, answers written out",
-            cases.map(|case| Input::case(case, Feed::File)),
-        );
+        let feeds = [Feed::Pipe, Feed::File];
+        for ((what, cases), feed) in (self.reference.written)().into_iter().zip(feeds) {
+            let inputs = cases.into_iter().map(|case| Input::case(case, feed));
+            self.family(what, inputs);
+        }
     }
 
     fn ranges(&mut self) {
@@ -169,16 +183,24 @@ impl Search<'_> {
 
 /// Feed inputs of every family. `tell` hears of each family.
 pub fn search(
+    reference: Reference,
     other: Other,
     plan: Plan,
     tell: &mut dyn FnMut(&str),
 ) -> Result<Compared, Vec<Difference>> {
     let mut search = Search {
+        reference,
         other,
         tell,
         lines: 0,
         found: Vec::new(),
     };
+    if reference.beginnings > 0 {
+        let times = reference.beginnings;
+        (search.tell)(&format!(
+            "each input, if not in pieces, is also cut short {times} times"
+        ));
+    }
     search.written_cases();
     search.ranges();
     let coverage = search.generated(plan);

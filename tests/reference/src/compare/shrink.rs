@@ -98,7 +98,7 @@ fn shorten(pieces: &mut [Vec<u8>], test: Test<Vec<u8>>) -> Option<()> {
 
 /// Shorten a differing input to a short run that still differs.
 fn shrink(other: Other, best: &mut Difference, end: Instant) -> Option<()> {
-    let (name, feed) = (best.name.clone(), best.feed);
+    let (reference, name, feed) = (best.reference, best.name.clone(), best.feed);
     // Nothing after the first differing line is needed.
     let mut pieces: Vec<Vec<u8>> = best
         .input
@@ -110,7 +110,7 @@ fn shrink(other: Other, best: &mut Difference, end: Instant) -> Option<()> {
         if Instant::now() > end {
             return None;
         }
-        let difference = differ(other, &name, &pieces.concat(), feed);
+        let difference = differ(reference, other, &name, &pieces.concat(), feed);
         let differs = difference.is_some();
         if let Some(difference) = difference {
             *best = difference;

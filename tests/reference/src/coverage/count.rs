@@ -1,6 +1,7 @@
 //! Counters of the answers, situations and bounds that inputs come to.
 
 use super::bounds::bounds;
+use super::charges::Charges;
 use super::restored::Restored;
 use super::seen::Seen;
 use super::situations::situations;
@@ -17,6 +18,16 @@ pub struct Coverage {
     bounds: BTreeSet<(&'static str, usize, u64)>,
     pub lines: u64,
     pub done: u64,
+}
+
+/// What the calls of an input have come to; `before` is one call behind `after`.
+#[derive(Default)]
+struct Past {
+    before: Monitor,
+    after: Monitor,
+    restored: Restored,
+    charges: Charges,
+    booted: bool,
 }
 
 impl Coverage {
@@ -51,42 +62,42 @@ impl Coverage {
 
     /// Run an input and count it.
     pub fn run(&mut self, mut input: &[u8]) {
-        // One call behind `after`.
-        let mut before = Monitor::new();
-        let mut after = Monitor::new();
-        let mut restored = Restored::default();
-        let mut booted = false;
+        let mut past = Past::default();
         let mut line = Vec::new();
         while let Some(whole) =
             lines::next_line(&mut input, &mut line).expect("memory does not fail")
         {
             let letters = letters_of(&line);
-            let (domain, call) = match lines::read(&line) {
-                Some(call) if whole => call,
-                _ => {
-                    self.count(letters, Refusal::Unreadable as u8);
-                    continue;
+            match lines::read(&line) {
+                Some((domain, call)) if whole => {
+                    self.note(letters, &line);
+                    self.run_call(&mut past, letters, domain, &call);
                 }
-            };
-            self.note(letters, &line);
-            let outcome = after.call(domain, &call);
-            let answer = outcome.as_ref().map_or_else(|&r| r as u8, |_| 0);
-            self.count(letters, answer);
-            self.note_situations(&Seen {
-                before: &before,
-                after: &after,
-                restored: &restored,
-                booted,
-                domain,
-                call: &call,
-                outcome: &outcome,
-            });
-            if answer == 0 {
-                restored.note(&before, &after, &call);
-                booted |= letters == "BT";
+                _ => self.count(letters, Refusal::Unreadable as u8),
             }
-            drop(before.call(domain, &call));
         }
+    }
+
+    fn run_call(&mut self, past: &mut Past, letters: &'static str, domain: u64, call: &Call) {
+        let outcome = past.after.call(domain, call);
+        let answer = outcome.as_ref().map_or_else(|&r| r as u8, |_| 0);
+        self.count(letters, answer);
+        self.note_situations(&Seen {
+            before: &past.before,
+            after: &past.after,
+            restored: &past.restored,
+            charges: &past.charges,
+            booted: past.booted,
+            domain,
+            call,
+            outcome: &outcome,
+        });
+        past.charges.note(&past.before, domain, call, answer == 0);
+        if answer == 0 {
+            past.restored.note(&past.before, &past.after, call);
+            past.booted |= letters == "BT";
+        }
+        drop(past.before.call(domain, call));
     }
 
     pub fn times(&self, letters: &'static str, answer: u8) -> u64 {

@@ -2,6 +2,7 @@
 //! counters of all three.
 
 mod bounds;
+mod charges;
 mod count;
 mod restored;
 mod seen;
@@ -9,6 +10,7 @@ mod situations;
 mod table;
 
 pub use bounds::BOUNDS;
+pub use charges::{Charges, Deletion};
 pub use count::Coverage;
 pub use restored::Restored;
 pub use seen::Seen;

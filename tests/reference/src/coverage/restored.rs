@@ -17,7 +17,7 @@ impl Restored {
         match *call {
             Call::Bt { .. } => self.0.clear(),
             Call::Cr { page, count, .. } => {
-                let made = Object::new(page, count, 0).words();
+                let made = Object::new(page, count, 0, 0).words();
                 self.0.retain(|at| !made.contains(at));
             }
             Call::Wr { address, .. } => {

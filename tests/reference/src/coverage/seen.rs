@@ -1,5 +1,6 @@
 //! A call as the situations look at it.
 
+use super::charges::Charges;
 use super::restored::Restored;
 use crate::monitor::*;
 
@@ -7,12 +8,13 @@ fn decides(mode: u64, rights: u64) -> bool {
     mode_grants(mode, rights) || mode_denies(mode, rights)
 }
 
-/// A call with the state before and after it, and the pairs that WRs brought
-/// back from behind an end before it.
+/// A call with the state before and after it, the pairs that WRs brought back
+/// from behind an end before it, and what was done to the accounts.
 pub struct Seen<'a> {
     pub before: &'a Monitor,
     pub after: &'a Monitor,
     pub restored: &'a Restored,
+    pub charges: &'a Charges,
     pub booted: bool,
     pub domain: u64,
     pub call: &'a Call,

@@ -17,6 +17,7 @@ pub const NO_LETTERS: &str = "--";
 ///   a capability (7).
 /// - CA and RG alone have entries to miss (8), CR alone a place (9), AP and RG
 ///   alone a password to repeat (10).
+/// - CR alone charges an account (14 and 15, right behind 9).
 /// - Full (11): CR, AP, RG, IN, CA. Nothing there (12): IN, RM, LO, DP, RT.
 pub const TABLE: [(&str, &[u8]); 17] = [
     (NO_LETTERS, &[1]),
@@ -25,7 +26,7 @@ pub const TABLE: [(&str, &[u8]); 17] = [
     ("WR", &[0, 1, 4, 5, 7]),
     ("EX", &[0, 1, 4, 5, 7]),
     ("LK", &[0, 1, 4, 5, 7]),
-    ("CR", &[0, 1, 4, 5, 9, 11]),
+    ("CR", &[0, 1, 4, 5, 9, 11, 14, 15]),
     ("DL", &[0, 1, 4, 5, 7]),
     ("AP", &[0, 1, 4, 5, 6, 7, 10, 11]),
     ("DP", &[0, 1, 4, 5, 7, 12]),

@@ -8,9 +8,8 @@ impl Generator {
     pub(super) fn boot(&mut self) -> Vec<u8> {
         if self.random.percent(20) {
             let mut line = self.boot_line();
-            if self.random.percent(70) {
-                let at = self.random.index(DOMAINS);
-                line.args[at] = 0;
+            if self.random.percent(80) {
+                self.spoil_boot(&mut line);
             } else {
                 line.domain = self.random.pick(&[4, 5, TOP]);
             }
@@ -25,7 +24,12 @@ impl Generator {
         self.booted = true;
         let length = self.random.pick(&[40, 200, 600, 1500, 4000]);
         self.left = 20 + self.random.below(length);
-        let bytes = self.boot_line().bytes();
+        let line = if self.random.percent(5) {
+            self.one_account_boot()
+        } else {
+            self.boot_line()
+        };
+        let bytes = line.bytes();
         self.play(&bytes);
         bytes
     }
@@ -36,6 +40,7 @@ impl Generator {
         if self.random.percent(10) {
             homes = vec![homes[0]; 4];
         }
+        homes.extend(self.boot_accounts());
         Line::new(domain, "BT", &homes)
     }
 

@@ -71,8 +71,7 @@ impl Generator {
         let home = (object.base / ESTATE_PAGES) as usize;
         self.push(ghost.owner, "DL", &[object.base]);
         self.probe(d, ghost);
-        let args = [object.base, object.pages, ghost.password];
-        self.push(home, "CR", &args);
+        self.push_create(home, object.base, object.pages, ghost.password);
         self.probe(d, ghost);
     }
 

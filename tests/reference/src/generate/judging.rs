@@ -122,7 +122,7 @@ impl Generator {
         let (first, length) = self.random.pick(&gaps);
         let count = self.random.pick(&[2, 2, 3, 5, length]).min(length);
         let password = self.password();
-        self.push(d, "CR", &[first, count, password]);
+        self.push_create(d, first, count, password);
         self.give(d, first, password);
         let slot = self.model.domains[d].now.slots.len() as u64;
         self.push(d, "IN", &[slot.min(7), first, password]);

@@ -14,17 +14,23 @@ pub enum Kind {
     Mode,
     Slot,
     Choice,
+    Limit,
+    Account,
+    Set,
 }
 
 /// The kind of a call's argument; all beyond RG's fourth are entries.
 pub fn kind(letters: &str, index: usize) -> Kind {
     use Kind::*;
     let kinds: &[Kind] = match letters {
-        "BT" => &[Password, Password, Password, Password],
+        "BT" => &[
+            Password, Password, Password, Password, Limit, Limit, Limit, Limit, Account, Set,
+            Account, Set, Account, Set, Account, Set,
+        ],
         "RD" | "EX" => &[Address],
         "WR" => &[Address, Value],
         "LK" => &[Address, Rights],
-        "CR" => &[Page, Count, Password],
+        "CR" => &[Page, Count, Password, Account],
         "DL" => &[Page],
         "AP" => &[Page, Password, Mode],
         "DP" => &[Page, Password],
@@ -56,5 +62,8 @@ pub fn edges(kind: Kind) -> &'static [u64] {
         ],
         Kind::Slot => &[0, 1, 6, 7, 8, 9, 254, 255, 256, 511, WIDE, TOP],
         Kind::Choice => &[0, 1, 2, 3, 256, 257, TOP],
+        Kind::Limit => &[0, 1, 2, 3, 4, 5, 64, 127, 128, 129, 255, 256, 384, TOP],
+        Kind::Account => &[0, 1, 2, 3, 4, 5, 7, 8, 255, 256, WIDE, TOP],
+        Kind::Set => &[0, 1, 2, 4, 7, 8, 14, 15, 16, 17, 31, 255, 256, 271, TOP],
     }
 }

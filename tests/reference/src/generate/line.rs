@@ -1,5 +1,11 @@
 //! A call line in parts.
 
+use crate::monitor::DOMAINS;
+
+/// A boot's arguments behind the home passwords: limits of 128, then account 0
+/// and a set of 15 for each domain.
+pub const AMPLE: [u64; 12] = [128, 128, 128, 128, 0, 15, 0, 15, 0, 15, 0, 15];
+
 /// A call line in parts.
 #[derive(Clone, Debug)]
 pub struct Line {
@@ -15,6 +21,12 @@ impl Line {
             letters,
             args: args.to_vec(),
         }
+    }
+
+    /// A boot with ample accounts.
+    pub fn boot(domain: u64, homes: [u64; DOMAINS]) -> Self {
+        let args = [&homes[..], &AMPLE].concat();
+        Line::new(domain, "BT", &args)
     }
 
     pub fn bytes(&self) -> Vec<u8> {

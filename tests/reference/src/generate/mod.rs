@@ -2,7 +2,9 @@
 //! lines can aim: most calls are granted, and the states get deep.
 
 mod access;
+mod accounts;
 mod boot;
+mod boot_accounts;
 mod ends;
 mod finding;
 mod ghost;
@@ -22,7 +24,7 @@ mod whole_lock;
 mod zero_pairs;
 
 pub use kinds::{edges, kind, Kind};
-pub use line::Line;
+pub use line::{Line, AMPLE};
 
 use crate::damage::{damage, register_line, FORMS};
 use crate::lines::{self, MAX_LINE};

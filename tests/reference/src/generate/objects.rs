@@ -24,7 +24,7 @@ impl Generator {
             _ => first,
         };
         let password = self.password();
-        self.push(d, "CR", &[page, count, password]);
+        self.push_create(d, page, count, password);
         if self.random.percent(85) {
             self.give(d, page, password);
         }
@@ -50,7 +50,7 @@ impl Generator {
         if self.random.percent(60) {
             let owner = (object.base / ESTATE_PAGES) as usize;
             let password = object.passwords.first().map_or(7, |p| p.word);
-            self.push(owner, "CR", &[object.base, object.pages, password]);
+            self.push_create(owner, object.base, object.pages, password);
         }
     }
 
@@ -65,7 +65,7 @@ impl Generator {
         } else {
             1
         };
-        self.push(owner, "CR", &[grave.base, pages, grave.password]);
+        self.push_create(owner, grave.base, pages, grave.password);
     }
 
     /// Eight objects in an estate, and one more.
@@ -82,7 +82,7 @@ impl Generator {
         for i in 0..most {
             let password = self.password();
             let page = free[i * step];
-            self.push(d, "CR", &[page, 1, password]);
+            self.push_create(d, page, 1, password);
             if i % 3 == 0 {
                 self.give(d, page, password);
             }

@@ -5,7 +5,7 @@ use super::*;
 type Plan = fn(&mut Generator, usize);
 
 /// What a domain may set out to do, and how often.
-pub(super) const PLANS: [(Plan, u64); 33] = [
+pub(super) const PLANS: [(Plan, u64); 37] = [
     (Generator::access, 30),
     (Generator::look, 10),
     (Generator::share, 8),
@@ -39,17 +39,19 @@ pub(super) const PLANS: [(Plan, u64); 33] = [
     (Generator::earlier_pair_behind, 2),
     (Generator::full_list, 1),
     (Generator::try_modes, 1),
+    (Generator::meet_limit, 2),
+    (Generator::break_rules, 1),
+    (Generator::crowd_estate, 1),
+    (Generator::give_back, 2),
 ];
 
-/// Plans that can be done before the first BT.
-const EARLY: [Plan; 8] = [
+/// Plans before the first BT. No account can be charged there, so nothing
+/// stands that could be named.
+const EARLY: [Plan; 5] = [
     Generator::create,
-    Generator::create,
-    Generator::insert,
-    Generator::insert,
-    Generator::remove,
     Generator::lock,
     Generator::get,
+    Generator::stray,
     Generator::stray,
 ];
 

@@ -16,8 +16,7 @@ impl Generator {
         if letters == "BT" {
             // A done boot ends the state: only `boot` makes one.
             let mut line = self.boot_line();
-            let at = self.random.index(DOMAINS);
-            line.args[at] = 0;
+            self.spoil_boot(&mut line);
             return line;
         }
         let mut args: Vec<u64> = (0..count).map(|i| self.likely(kind(letters, i))).collect();

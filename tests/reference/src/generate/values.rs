@@ -104,6 +104,9 @@ impl Generator {
             Kind::Mode => self.mode(),
             Kind::Slot => self.random.below(8),
             Kind::Choice => self.random.below(2),
+            Kind::Limit => 1 + self.random.below(MAX_LIMIT),
+            Kind::Account => self.random.below(4),
+            Kind::Set => self.random.below(16),
         }
     }
 

@@ -8,15 +8,19 @@ mod placed;
 
 pub use placed::{Placed, PlacedObject};
 
-use crate::monitor::DOMAINS;
+use crate::monitor::{DOMAINS, MAX_LIMIT, MAX_SET};
+use bytes::put;
 use domains::{read_domain, write_domain};
 use objects::{read_estate, write_estate};
 
-/// The lengths in bytes, and where the protection domains begin.
-pub const IMAGE_BYTES: usize = 3552;
-pub const ESTATE_BYTES: usize = 512;
-pub const OBJECT_BYTES: usize = 64;
-pub const DOMAINS_AT: usize = 2048;
+/// The lengths in bytes, and where the protection domains, the limits and the
+/// sets begin.
+pub const IMAGE_BYTES: usize = 3592;
+pub const ESTATE_BYTES: usize = 520;
+pub const OBJECT_BYTES: usize = 65;
+pub const DOMAINS_AT: usize = 2080;
+pub const LIMITS_AT: usize = 3584;
+pub const SETS_AT: usize = 3588;
 pub const DOMAIN_BYTES: usize = 376;
 pub const FRAME_BYTES: usize = 75;
 pub const STORE_BYTES: usize = 65_536;
@@ -26,24 +30,32 @@ pub fn decode(image: &[u8]) -> Option<Placed> {
     if image.len() != IMAGE_BYTES {
         return None;
     }
-    let (table, domains) = image.split_at(DOMAINS_AT);
+    let (table, domains) = image[..LIMITS_AT].split_at(DOMAINS_AT);
     let mut state = Placed::default();
     for d in 0..DOMAINS {
         state.estates[d] = read_estate(d, &table[ESTATE_BYTES * d..][..ESTATE_BYTES])?;
         state.domains[d] = read_domain(&domains[DOMAIN_BYTES * d..][..DOMAIN_BYTES])?;
     }
-    Some(state)
+    state.limits = [0, 1, 2, 3].map(|a| u64::from(image[LIMITS_AT + a]));
+    state.sets = [0, 1, 2, 3].map(|d| u64::from(image[SETS_AT + d]));
+    let within = state.limits.iter().all(|&limit| limit <= MAX_LIMIT)
+        && state.sets.iter().all(|&set| set <= MAX_SET);
+    within.then_some(state)
 }
 
 /// The image of a state.
 pub fn encode(state: &Placed) -> Vec<u8> {
     let mut image = vec![0; IMAGE_BYTES];
-    let (table, domains) = image.split_at_mut(DOMAINS_AT);
+    let (table, domains) = image[..LIMITS_AT].split_at_mut(DOMAINS_AT);
     for d in 0..DOMAINS {
         let estate = &mut table[ESTATE_BYTES * d..][..ESTATE_BYTES];
         write_estate(&state.estates[d], estate);
         let domain = &mut domains[DOMAIN_BYTES * d..][..DOMAIN_BYTES];
         write_domain(&state.domains[d], domain);
+    }
+    for i in 0..4 {
+        put(&mut image[LIMITS_AT + i..][..1], state.limits[i]);
+        put(&mut image[SETS_AT + i..][..1], state.sets[i]);
     }
     image
 }

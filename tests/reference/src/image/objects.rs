@@ -13,6 +13,7 @@ const LIST_PAGE: usize = 46;
 const LIST_PASSWORD: usize = 47;
 const COUNT: usize = 55;
 const ENTRIES: usize = 56;
+const ACCOUNT: usize = 64;
 
 /// The estate of a domain, if its bytes keep the bounds.
 pub fn read_estate(domain: usize, bytes: &[u8]) -> Option<Estate> {
@@ -39,11 +40,16 @@ fn read_object(domain: usize, bytes: &[u8]) -> Option<Option<PlacedObject>> {
     if base < own.start || base + pages > own.end {
         return None;
     }
+    let account = u64::from(bytes[ACCOUNT]);
+    if account >= ACCOUNTS as u64 {
+        return None;
+    }
     let mut object = PlacedObject {
         base,
         pages,
         passwords: [None; MAX_PASSWORDS],
         registration: None,
+        account,
     };
     for (k, place) in object.passwords.iter_mut().enumerate() {
         *place = read_password(&bytes[PASSWORDS + PASSWORD_BYTES * k..][..PASSWORD_BYTES])?;
@@ -64,7 +70,7 @@ fn read_password(bytes: &[u8]) -> Option<Option<Password>> {
 fn read_registration(pages: std::ops::Range<u64>, object: &[u8]) -> Option<Option<Registration>> {
     let password = number(&object[REGISTRATION..LIST_PAGE]);
     if password == 0 {
-        return unused(&object[REGISTRATION..]).then_some(None);
+        return unused(&object[REGISTRATION..ACCOUNT]).then_some(None);
     }
     let list = Capability {
         page: u64::from(object[LIST_PAGE]),
@@ -74,7 +80,7 @@ fn read_registration(pages: std::ops::Range<u64>, object: &[u8]) -> Option<Optio
     if list.page >= PAGES || !(1..=MAX_ENTRIES).contains(&count) {
         return None;
     }
-    let (used, free) = object[ENTRIES..].split_at(2 * count);
+    let (used, free) = object[ENTRIES..ACCOUNT].split_at(2 * count);
     let entries: Vec<u64> = used.chunks(2).map(number).collect();
     let inside = entries.iter().all(|e| pages.contains(&(e / PAGE_WORDS)));
     (inside && unused(free)).then_some(Some(Registration {
@@ -95,6 +101,7 @@ pub fn write_estate(objects: &Estate, bytes: &mut [u8]) {
 fn write_object(object: &PlacedObject, bytes: &mut [u8]) {
     put(&mut bytes[0..1], object.base);
     put(&mut bytes[1..2], object.pages);
+    put(&mut bytes[ACCOUNT..], object.account);
     for (k, place) in object.passwords.iter().enumerate() {
         if let Some(password) = place {
             let bytes = &mut bytes[PASSWORDS + PASSWORD_BYTES * k..][..PASSWORD_BYTES];
@@ -113,7 +120,7 @@ fn write_object(object: &PlacedObject, bytes: &mut [u8]) {
         for (entry, bytes) in registration
             .entries
             .iter()
-            .zip(bytes[ENTRIES..].chunks_mut(2))
+            .zip(bytes[ENTRIES..ACCOUNT].chunks_mut(2))
         {
             put(bytes, *entry);
         }

@@ -12,12 +12,15 @@ pub struct PlacedObject {
     pub pages: u64,
     pub passwords: [Option<Password>; MAX_PASSWORDS],
     pub registration: Option<Registration>,
+    pub account: u64,
 }
 
 #[derive(Clone, Debug, Default, PartialEq, Eq)]
 pub struct Placed {
     pub estates: [Estate; DOMAINS],
     pub domains: [Domain; DOMAINS],
+    pub limits: [u64; ACCOUNTS],
+    pub sets: [u64; DOMAINS],
 }
 
 impl PlacedObject {
@@ -32,6 +35,7 @@ impl PlacedObject {
             pages: object.pages,
             passwords,
             registration: object.registration.clone(),
+            account: object.account,
         }
     }
 
@@ -42,6 +46,7 @@ impl PlacedObject {
             pages: self.pages,
             passwords: self.passwords.iter().flatten().copied().collect(),
             registration: self.registration.clone(),
+            account: self.account,
         }
     }
 
@@ -59,6 +64,8 @@ impl Placed {
         let mut state = Placed {
             estates: Default::default(),
             domains: monitor.domains.clone(),
+            limits: monitor.limits,
+            sets: monitor.sets,
         };
         for object in &monitor.objects {
             let estate = &mut state.estates[(object.base / ESTATE_PAGES) as usize];
@@ -80,6 +87,8 @@ impl Placed {
         Monitor {
             objects: self.objects(),
             domains: self.domains.clone(),
+            limits: self.limits,
+            sets: self.sets,
             store,
         }
     }
@@ -91,7 +100,12 @@ impl Placed {
             return Some(format!("objects {mine:?}, not {other:?}"));
         }
         let (mine, other) = (&self.domains, &monitor.domains);
-        (mine != other).then(|| format!("domains {mine:?}, not {other:?}"))
+        if mine != other {
+            return Some(format!("domains {mine:?}, not {other:?}"));
+        }
+        let mine = (self.limits, self.sets);
+        let other = (monitor.limits, monitor.sets);
+        (mine != other).then(|| format!("limits and sets {mine:?}, not {other:?}"))
     }
 }
 

@@ -2,11 +2,12 @@
 //! the bounds at which input is read.
 
 use crate::damage::register_line;
+use crate::lines::BOOT;
 use crate::random::Random;
 
 /// Every byte value at every place of a short line.
 pub fn bytes() -> Vec<u8> {
-    let mut out = b"0,BT,11,12,13,14\n".to_vec();
+    let mut out = format!("{BOOT}\n").into_bytes();
     let line = b"0,LK,10,1";
     for byte in 0..=255 {
         for at in 0..=line.len() {
@@ -28,7 +29,7 @@ pub fn bytes() -> Vec<u8> {
 /// Lines of about 200 bytes, and a few that are much longer, among short ones.
 pub fn long_lines(seed: u64) -> Vec<u8> {
     let mut random = Random::new(seed ^ 0x10e6);
-    let mut bytes = b"0,BT,11,12,13,14\n".to_vec();
+    let mut bytes = format!("{BOOT}\n").into_bytes();
     for length in (199..=202).chain((0..100).map(|i| 190 + i * 7 % 21)) {
         bytes.extend(register_line(length));
         bytes.extend_from_slice(b"\n0,RD,0\n");
@@ -54,7 +55,7 @@ pub fn across() -> Vec<(String, Vec<u8>)> {
             (&register_line(201), few.to_vec()),
         ] {
             for ahead in ahead {
-                let mut bytes = b"0,BT,11,12,13,14\n".to_vec();
+                let mut bytes = format!("{BOOT}\n").into_bytes();
                 // One long line before it, or many of 99 bytes and a rest.
                 let start = bound - ahead;
                 while ahead % 2 == 1 && bytes.len() + 100 < start {

@@ -2,6 +2,7 @@
 
 use super::input;
 use crate::damage::register_line;
+use crate::lines::BOOT;
 use crate::random::Random;
 
 /// Lines with bytes changed, taken out and put in.
@@ -63,7 +64,7 @@ fn cut_short(mut bytes: Vec<u8>, random: &mut Random) -> Vec<u8> {
 
 /// Very long lines among good ones.
 fn very_long_lines() -> Vec<u8> {
-    let mut bytes = b"0,BT,11,12,13,14\n".to_vec();
+    let mut bytes = format!("{BOOT}\n").into_bytes();
     for length in [199, 200, 201, 202, 4095, 65_536, 1_000_000] {
         bytes.extend(register_line(length));
         bytes.extend_from_slice(b"\n0,RD,0\n0,RD,");
@@ -122,7 +123,7 @@ fn in_wrong_order(bytes: &[u8], random: &mut Random) -> Vec<u8> {
 
 /// A last line of 199 to 202 bytes without its line feed.
 fn long_last_line(random: &mut Random) -> Vec<u8> {
-    let mut bytes = b"0,BT,11,12,13,14\n".to_vec();
+    let mut bytes = format!("{BOOT}\n").into_bytes();
     bytes.extend(register_line(199 + random.index(4)));
     bytes
 }

@@ -1,12 +1,16 @@
 //! The calls, and what comes of them.
 
-use super::state::{Capability, DOMAINS};
+use super::state::{Capability, ACCOUNTS, DOMAINS};
 
 /// A call with its arguments as they were given.
 #[derive(Clone, Debug, PartialEq, Eq)]
 pub enum Call {
     Bt {
         homes: [u64; DOMAINS],
+        limits: [u64; ACCOUNTS],
+        /// The home account of each domain, and its set.
+        accounts: [u64; DOMAINS],
+        sets: [u64; DOMAINS],
     },
     Rd {
         address: u64,
@@ -26,6 +30,7 @@ pub enum Call {
         page: u64,
         count: u64,
         password: u64,
+        account: u64,
     },
     Dl {
         base: u64,
@@ -63,7 +68,8 @@ pub enum Call {
     Rt,
 }
 
-/// The refusals, by the paper's numbers.
+/// The refusals, by the paper's numbers. `Account` and `Limit` are checked
+/// right behind `Place`.
 #[derive(Clone, Copy, Debug, PartialEq, Eq)]
 pub enum Refusal {
     Unreadable = 1,
@@ -76,6 +82,8 @@ pub enum Refusal {
     Known = 10,
     Full = 11,
     Absent = 12,
+    Account = 14,
+    Limit = 15,
 }
 
 /// What a done call gives: a value, or the fields of GT.

@@ -5,6 +5,7 @@
 //! answers 2 and 3 cannot occur here.
 
 mod access;
+mod accounts;
 mod boot;
 mod call;
 mod judge;
@@ -16,6 +17,8 @@ mod slots;
 mod sound;
 mod state;
 
+pub use accounts::in_set;
+pub use boot::home_pages;
 pub use call::{Call, Done, Outcome, Refusal};
 pub use modes::*;
 pub use state::*;
@@ -26,6 +29,10 @@ use call::{done, need};
 pub struct Monitor {
     pub objects: Vec<Object>,
     pub domains: [Domain; DOMAINS],
+    /// The most pages that each account may be charged.
+    pub limits: [u64; ACCOUNTS],
+    /// The accounts that each domain may charge, bit a for account a.
+    pub sets: [u64; DOMAINS],
     pub store: Vec<u64>,
 }
 
@@ -36,11 +43,14 @@ impl Default for Monitor {
 }
 
 impl Monitor {
-    /// Before the first BT: no objects, no slots, a store of zeros.
+    /// Before the first BT: no objects, no slots, limits of 0 and empty sets, a
+    /// store of zeros.
     pub fn new() -> Self {
         Monitor {
             objects: Vec::new(),
             domains: Default::default(),
+            limits: [0; ACCOUNTS],
+            sets: [0; DOMAINS],
             store: vec![0; WORDS as usize],
         }
     }
@@ -70,9 +80,17 @@ impl Monitor {
     /// One call by one domain. A refused call changes nothing.
     pub fn call(&mut self, domain: u64, call: &Call) -> Outcome {
         need(domain < DOMAINS as u64, Refusal::Domain)?;
-        let d = domain as usize;
+        self.answer(domain as usize, call)
+    }
+
+    fn answer(&mut self, d: usize, call: &Call) -> Outcome {
         match *call {
-            Call::Bt { homes } => self.boot(homes),
+            Call::Bt {
+                homes,
+                limits,
+                accounts,
+                sets,
+            } => self.boot(homes, limits, accounts, sets),
             Call::Rd { address } => self.read(d, address),
             Call::Wr { address, value } => self.write(d, address, value),
             Call::Ex { address } => self.execute(d, address),
@@ -81,7 +99,8 @@ impl Monitor {
                 page,
                 count,
                 password,
-            } => self.create(d, page, count, password),
+                account,
+            } => self.create(d, page, count, password, account),
             Call::Dl { base } => self.delete(d, base),
             Call::Ap {
                 base,

@@ -13,6 +13,8 @@ impl Monitor {
                     .iter()
                     .all(|b| a.run().end <= b.run().start || b.run().end <= a.run().start)
             })
+            && self.limits.iter().all(|&limit| limit <= MAX_LIMIT)
+            && self.sets.iter().all(|&set| set <= MAX_SET)
             && self.domains.iter().all(|domain| {
                 sound_frame(&domain.now)
                     && domain.saved.len() <= MAX_SAVED
@@ -37,6 +39,7 @@ fn sound_object(object: &Object) -> bool {
         && object.base / ESTATE_PAGES == (object.base + object.pages - 1) / ESTATE_PAGES
         && object.passwords.len() <= MAX_PASSWORDS
         && object.passwords.iter().all(|p| legal_mode(p.mode))
+        && object.account < ACCOUNTS as u64
         && words.iter().all(|&p| p != 0)
         && different
         && registration

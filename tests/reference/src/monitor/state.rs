@@ -4,6 +4,7 @@ use super::modes::{OWNER, P};
 use std::ops::Range;
 
 pub const DOMAINS: usize = 4;
+pub const ACCOUNTS: usize = 4;
 pub const WORDS: u64 = 8192;
 pub const PAGE_WORDS: u64 = 64;
 pub const PAGES: u64 = 128;
@@ -14,6 +15,8 @@ pub const MAX_PASSWORDS: usize = 4;
 pub const MAX_ENTRIES: usize = 4;
 pub const MAX_SLOTS: usize = 8;
 pub const MAX_SAVED: usize = 4;
+pub const MAX_LIMIT: u64 = 128;
+pub const MAX_SET: u64 = 15;
 
 /// The slot number by which LO sets the whole lock.
 pub const WHOLE: u64 = 255;
@@ -52,11 +55,13 @@ pub struct Object {
     pub pages: u64,
     pub passwords: Vec<Password>,
     pub registration: Option<Registration>,
+    /// The account that its pages are charged to.
+    pub account: u64,
 }
 
 impl Object {
     /// An object as CR and BT make it: the password is its owner's.
-    pub fn new(base: u64, pages: u64, password: u64) -> Self {
+    pub fn new(base: u64, pages: u64, password: u64, account: u64) -> Self {
         Object {
             base,
             pages,
@@ -65,6 +70,7 @@ impl Object {
                 mode: OWNER,
             }],
             registration: None,
+            account,
         }
     }
 

@@ -1,7 +1,7 @@
 //! Broken readers of the input.
 
 use crate::{found, SHORT};
-use refmonitor::compare::{search, Feed, Ran};
+use refmonitor::compare::{search, Feed, Ran, ANSWERS};
 use refmonitor::lines::run_bytes;
 
 type Tamper = fn(&[u8]) -> Vec<u8>;
@@ -92,7 +92,7 @@ fn faults_at_the_ends_of_pieces_are_found() {
         };
         Ran::well(run_bytes(&input[..end]))
     };
-    let found = search(&mut other, SHORT, &mut |_| {});
+    let found = search(ANSWERS, &mut other, SHORT, &mut |_| {});
     let found = found.err().expect("a short read taken as the end");
     assert_eq!(found[0].feed, Feed::Pieces(1));
 }

@@ -96,7 +96,7 @@ fn behind_the_loads_stage() -> Vec<(&'static str, Vec<Line>)> {
         ),
         ("IN and RM", vec![insert, Line::new(3, "RM", &[1])]),
         ("AP and DP", vec![add, Line::new(3, "DP", &[96, 777])]),
-        ("BT", line(0, "BT", &[11, 12, 13, 14])),
+        ("BT", vec![Line::boot(0, [11, 12, 13, 14])]),
     ]
 }
 

@@ -4,16 +4,19 @@ use super::*;
 
 pub(super) const BOOTS: &[Situation] = &[
     ("CR before the first BT", |s| {
-        !s.booted && s.done() && matches!(s.call, Call::Cr { .. })
+        !s.booted && s.refused(Refusal::Account) && matches!(s.call, Call::Cr { .. })
     }),
     ("IN before the first BT", |s| {
-        !s.booted && s.done() && matches!(s.call, Call::In { .. })
+        !s.booted && s.refused(Refusal::NotGranted) && matches!(s.call, Call::In { .. })
+    }),
+    ("LO 255 before the first BT", |s| {
+        !s.booted && s.done() && matches!(s.call, Call::Lo { slot: WHOLE })
     }),
     ("BT refused after a boot", |s| {
         s.booted && !s.done() && matches!(s.call, Call::Bt { .. })
     }),
     ("BT with equal passwords", |s| {
-        s.done() && matches!(s.call, Call::Bt { homes } if homes[0] == homes[1])
+        s.done() && matches!(s.call, Call::Bt { homes, .. } if homes[0] == homes[1])
     }),
     ("BT over saved domains", |s| {
         s.done()

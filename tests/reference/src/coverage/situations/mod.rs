@@ -1,5 +1,7 @@
 //! Situations that a good run comes to.
 
+mod accounts;
+mod boot_accounts;
 mod boots;
 mod ends;
 mod faults;
@@ -13,14 +15,18 @@ mod registrations;
 mod slots;
 mod whole_lock;
 
+use super::charges::Deletion;
 use super::seen::Seen;
 use crate::monitor::*;
 
 /// A situation's name, and whether a call is in it.
 pub type Situation = (&'static str, fn(&Seen) -> bool);
 
-const GROUPS: [&[Situation]; 12] = [
+const GROUPS: [&[Situation]; 15] = [
     boots::BOOTS,
+    boot_accounts::BOOT_ACCOUNTS,
+    accounts::ACCOUNTS_CHARGED,
+    accounts::PAGES_BACK,
     judging::JUDGING,
     lists::LISTS,
     ends::ENDS,

@@ -5,12 +5,15 @@ use crate::generate::{edges, kind, Line};
 
 /// Good calls, each argument of which is put at its bounds.
 const GOOD: [(&str, &[u64]); 16] = [
-    ("BT", &[1, 2, 3, 4]),
+    (
+        "BT",
+        &[1, 2, 3, 4, 128, 128, 128, 128, 0, 15, 0, 15, 0, 15, 0, 15],
+    ),
     ("RD", &[64]),
     ("WR", &[64, 5]),
     ("EX", &[64]),
     ("LK", &[64, 3]),
-    ("CR", &[3, 2, 5]),
+    ("CR", &[3, 2, 5, 0]),
     ("DL", &[1]),
     ("AP", &[1, 5, 1]),
     ("DP", &[1, 21]),

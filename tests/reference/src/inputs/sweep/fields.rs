@@ -30,7 +30,7 @@ impl Sweep {
         for first in b'A'..=b'Z' {
             for second in b'A'..=b'Z' {
                 let mut line = format!("1,{}{}", first as char, second as char);
-                for _ in 0..=7 {
+                for _ in 0..=17 {
                     self.add(&line);
                     line += ",1";
                 }

@@ -32,7 +32,7 @@ impl Sweep {
     /// Every place of a long Clist; the pairs before it keep their first word.
     pub(super) fn pairs(&mut self) {
         self.boot();
-        self.add("0,CR,1,31,21");
+        self.add("0,CR,1,31,21,0");
         self.add("0,WR,2,256");
         self.add("0,WR,3,21");
         self.add("0,IN,1,1,21");

@@ -1,9 +1,12 @@
 //! Sweeps over the ranges of arguments, letters and numbers.
 
+mod accounts;
 mod bounds;
 mod fields;
 mod judging;
 mod ranges;
+
+use crate::lines::BOOT;
 
 const TOP: u64 = u64::MAX;
 
@@ -20,6 +23,10 @@ pub fn sweep() -> Vec<u8> {
     sweep.addresses();
     sweep.slots();
     sweep.choices();
+    sweep.limits();
+    sweep.small_limits();
+    sweep.sets();
+    sweep.charges();
     sweep.letters();
     sweep.numbers();
     sweep.0.into_bytes()
@@ -35,13 +42,13 @@ impl Sweep {
     }
 
     fn boot(&mut self) {
-        self.add("0,BT,11,12,13,14");
+        self.add(BOOT);
     }
 
     /// A boot, and an object of two pages that domain 0 owns.
     fn stage(&mut self) {
         self.boot();
-        self.add("0,CR,1,2,21");
+        self.add("0,CR,1,2,21,0");
         self.add("0,WR,2,256");
         self.add("0,WR,3,21");
     }

@@ -6,7 +6,7 @@ impl Sweep {
     pub(super) fn pages(&mut self) {
         for page in (0..=130).chain([255, 256, 257, 1 << 32, TOP]) {
             for d in 0..=4 {
-                self.add(format!("{d},CR,{page},1,5"));
+                self.add(format!("{d},CR,{page},1,5,0"));
                 self.add(format!("{d},DL,{page}"));
                 self.add(format!("{d},IN,1,{page},5"));
                 self.add(format!("{d},AP,{page},5,1"));
@@ -21,14 +21,14 @@ impl Sweep {
     pub(super) fn counts(&mut self) {
         for count in 0..=40 {
             for first in [1, 2, 3, 30, 31, 32] {
-                self.add(format!("0,CR,{first},{count},5"));
-                self.add(format!("0,CR,{first},{count},5"));
+                self.add(format!("0,CR,{first},{count},5,0"));
+                self.add(format!("0,CR,{first},{count},5,0"));
                 self.add(format!("0,WR,4,{}", first * 256));
                 self.add("0,WR,5,5");
                 self.add(format!("0,DL,{first}"));
             }
         }
-        self.add("0,CR,1,2,21");
+        self.add("0,CR,1,2,21,0");
     }
 
     pub(super) fn addresses(&mut self) {

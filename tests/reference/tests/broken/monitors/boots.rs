@@ -8,6 +8,8 @@ pub(super) const BOOTS: &[Broken] = &[
         if matches!(c, Call::Bt { .. }) && outcome.is_err() {
             m.objects.clear();
             m.domains = Default::default();
+            m.limits = [0; ACCOUNTS];
+            m.sets = [0; DOMAINS];
         }
         outcome
     }),
@@ -22,7 +24,7 @@ pub(super) const BOOTS: &[Broken] = &[
         outcome
     }),
     ("BT wants different passwords", |m, _, d, c| match c {
-        Call::Bt { homes } if d < 4 && homes[0] == homes[1] => Err(Refusal::Range),
+        Call::Bt { homes, .. } if d < 4 && homes[0] == homes[1] => Err(Refusal::Range),
         _ => m.call(d, c),
     }),
     ("domain after range", |m, _, d, c| match (c, m.call(d, c)) {

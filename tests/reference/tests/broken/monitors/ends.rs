@@ -96,7 +96,7 @@ pub(super) const ENDS: &[Broken] = &[
     }),
     ("each page of a list has its end", |m, _, d, c| {
         let pairs = |m: &Monitor, list: &Object| {
-            let pages = list.run().map(|base| Object::new(base, 1, 1));
+            let pages = list.run().map(|base| Object::new(base, 1, 1, 0));
             pages
                 .flat_map(|page| m.list_pairs(&page).collect::<Vec<_>>())
                 .collect()

@@ -1,11 +1,14 @@
 //! Broken monitors.
 
+mod accounts;
+mod boot_accounts;
 mod boots;
 mod ends;
 mod judging;
 mod modes;
 mod objects;
 mod pages;
+mod pages_back;
 mod procedures;
 mod shams;
 mod slots;
@@ -46,6 +49,9 @@ fn broken() -> impl Iterator<Item = Broken> {
         whole_lock::WHOLE_LOCK,
         procedures::PROCEDURES,
         boots::BOOTS,
+        boot_accounts::BOOT_ACCOUNTS,
+        accounts::ACCOUNTS_BROKEN,
+        pages_back::PAGES_BACK,
     ];
     groups.into_iter().flatten().copied()
 }
