@@ -39,12 +39,12 @@ pub record Stands (a : Progress) (piece : List ℕ) (n size : ℕ) (s : State) (
 
 -- and behind a line that is answered there, of whatever kind
 pub stands-told : {a : Progress} {piece : List ℕ} {n size : ℕ} {s : State} {words : List ℕ} {number : ℕ} {line : List ℕ} {held : ℕ} {out : List ℕ} {at from end : ℕ}
-    {reading l : Line} {number′ : ℕ} {line′ : List ℕ} {s′ : State} {words′ out′ : List ℕ} {at′ : ℕ} (plan : List ℕ)
+    {l : Line} {number′ : ℕ} {line′ : List ℕ} {s′ : State} {words′ out′ : List ℕ} {at′ : ℕ} (reading : Line) (plan : List ℕ)
     → Stands a piece n size s words number line held out at from → end ≡ from + until 10 (drop from piece) → (end ≡ length piece → ⊥)
     → reads reading plan ≡ lineOf (foldl heldByte (take held line) (take (end - from) (drop from piece))) → number′ ≡ nextNumber number → length line′ ≡ length line
     → reading ≡ l → told number out at out′ at′ (world s′ words′) (reply unchecked (world s words) (reads l plan)) → length words′ ≡ length words → length out′ ≡ length out
     → Stands a piece n size s′ words′ number′ line′ 0 out′ at′ (end + 1)
-stands-told {line = line} {held = held} {out = out} {at = at} {out′ = out′} {at′ = at′} plan v to ne e m k q t w o =
+stands-told {line = line} {held = held} {out = out} {at = at} {out′ = out′} {at′ = at′} reading plan v to ne e m k q t w o =
     record {
       fed = fed-told unchecked heldByte (take held line) out at out′ at′ (v .fed) to ne (ap (λ (z : Line). reads z plan) (sym q) ∙ e) m t;
       few = omega arith;

@@ -29,7 +29,7 @@ use Rattle.calls.specs.declared.Answer.{Answer}
 use Rattle.calls.specs.declared.Outcome.{Outcome}
 use Rattle.calls.specs.declared.Altered.{Altered}
 use Rattle.calls.specs.declared.Moved.{Moved}
-use Rattle.lines.specs.Reading.{Reading, bootBy, callBy, reads}
+use Rattle.lines.specs.Reading.{bootBy, callBy, reads}
 use Rattle.lines.specs.declared.Line.{Line}
 use Rattle.lines.specs.declared.Line.the-variants.{Unreadable, Boot, Call}
 use Rattle.text.specs.Answer.{printed, printedEnd}

@@ -50,3 +50,7 @@ reached-run f words r =
     r .led
     ∙ sym (flushed-run unchecked heldByte started (r .input))
     ∙ ap flushed (cut-run unchecked (r .input) started ∙ ap cut (run-unchecked extended (r .input) started empty-sound))
+
+-- STATE AND STORE OF A FEED that some input leads to: those behind that input by document 01
+pub reached-world : (f : Feed) (words : List ℕ) (r : Reached (replicate 8192 0) f words) → world (f .state) words ≡ foldl onByte started (r .input) .world
+reached-world f words r = ap (λ (z : Progress). z .world) (reached-run f words r)
