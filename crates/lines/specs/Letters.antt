@@ -7,8 +7,8 @@ use native.Mathlib.Omega.{arith}
 use lib.Dec.{eqb}
 use lib.ListN.{length, getD}
 use Rattle.lines.specs.declared.Letters.{Letters}
-use Rattle.lines.specs.declared.Letters.the-variants.{Unknown, Known}
-use Rattle.lines.specs.declared.Mnemonic.the-variants.{Bt, Rd, Wr, Ex, Lk, Cr, Dl, Ap, Dp, Rg, In, Rm, Gt, Lo, Ca, Rt}
+use Rattle.lines.specs.declared.Letters.the-variants.{Unknown, Boot, Known}
+use Rattle.lines.specs.declared.Mnemonic.the-variants.{Rd, Wr, Ex, Lk, Cr, Dl, Ap, Dp, Rg, In, Rm, Gt, Lo, Ca, Rt}
 
 -- two letters as one number
 abbrev pub lettersPair : ℕ → ℕ → ℕ
@@ -21,7 +21,7 @@ pair-same a b c d h k e = (omega arith, omega arith)
 -- the letters of each call in ASCII, two as one number
 unfoldable pub mnemonicOf : ℕ → Letters
 mnemonicOf letters =
-    cond (eqb letters 0x4254) (Known Bt)
+    cond (eqb letters 0x4254) Boot
     (cond (eqb letters 0x5244) (Known Rd)
     (cond (eqb letters 0x5752) (Known Wr)
     (cond (eqb letters 0x4558) (Known Ex)

@@ -2,12 +2,15 @@ pub mod Number
 pub mod Split
 pub mod Arguments
 pub mod Letters
+pub mod Reading
 pub mod Grammar
 pub mod Bytes
 pub mod Short
 pub mod Until
 pub mod Cut
 pub mod Taking
-pub mod Reading
+pub mod Keeping
+pub mod Filling
+pub mod Commas
 pub mod Joined
 pub mod Examples

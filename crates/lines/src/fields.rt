@@ -106,7 +106,7 @@ fn mnemonic_of(letters: u64) -> Letters
     ensures { λ r. ⌜ r ≡ mnemonicOf letters ⌝ }
 {
     match letters {
-        0x4254 => return Letters::Known(Mnemonic::Bt),
+        0x4254 => return Letters::Boot,
         0x5244 => return Letters::Known(Mnemonic::Rd),
         0x5752 => return Letters::Known(Mnemonic::Wr),
         0x4558 => return Letters::Known(Mnemonic::Ex),

@@ -1,6 +1,5 @@
 // The calls, each with the arguments that it takes.
 use crate::Eight;
-use crate::Homes;
 use crate::Line;
 use crate::Mnemonic;
 use calls::Access;
@@ -15,7 +14,8 @@ ghost use Rattle.calls.specs.declared.Call.the-variants.{OnStore, OnObject, OnD
 ghost use Rattle.calls.specs.declared.Access.the-variants.{Write, Lookup};
 ghost use Rattle.calls.specs.declared.ObjectCall.the-variants.{Create, AddPassword, DropPassword};
 ghost use Rattle.calls.specs.declared.DomainCall.the-variants.{Insert, PdxCall};
-ghost use Rattle.lines.specs.Grammar.{homesFrom, exactly as Grammar·exactly, atLeast, bootOf, registerOf, callOf};
+ghost use Rattle.lines.specs.Reading.{Whatever};
+ghost use Rattle.lines.specs.Grammar.{exactly as Grammar·exactly, atLeast, registerOf, callOf};
 
 // The calls of several numbers, each as its fields.
 fn write(address: u64, value: u64) -> Access
@@ -30,13 +30,14 @@ fn lookup(address: u64, rights: u64) -> Access
     Access::Lookup { address, rights }
 }
 
-fn create(page: u64, pages: u64, password: u64) -> ObjectCall
-    ensures { λ r. ⌜ r ≡ Create page pages password ⌝ }
+fn create(page: u64, pages: u64, password: u64, account: u64) -> ObjectCall
+    ensures { λ r. ⌜ r ≡ Create page pages password account ⌝ }
 {
     ObjectCall::Create {
         page,
         pages,
         password,
+        account,
     }
 }
 
@@ -73,7 +74,7 @@ fn insert(slot: u64, page: u64, password: u64) -> DomainCall
 
 // A call that has as many arguments as it takes.
 fn exactly(domain: u64, count: usize, n: usize, call: Call) -> Line
-    ensures { λ r. ⌜ r ≡ Grammar·exactly domain count n call ⌝ }
+    ensures { λ r. ⌜ Whatever r (Grammar·exactly domain count n call) ⌝ }
 {
     if count == n {
         return Line::Call { domain, call };
@@ -83,44 +84,34 @@ fn exactly(domain: u64, count: usize, n: usize, call: Call) -> Line
 
 // An access that has as many arguments as it takes.
 fn on_store(domain: u64, count: usize, n: usize, call: Access) -> Line
-    ensures { λ r. ⌜ r ≡ Grammar·exactly domain count n (OnStore call) ⌝ }
+    ensures { λ r. ⌜ Whatever r (Grammar·exactly domain count n (OnStore call)) ⌝ }
 {
     exactly(domain, count, n, Call::OnStore(call))
 }
 
 // A call on objects that has as many arguments as it takes.
 fn on_object(domain: u64, count: usize, n: usize, call: ObjectCall) -> Line
-    ensures { λ r. ⌜ r ≡ Grammar·exactly domain count n (OnObject call) ⌝ }
+    ensures { λ r. ⌜ Whatever r (Grammar·exactly domain count n (OnObject call)) ⌝ }
 {
     exactly(domain, count, n, Call::OnObject(call))
 }
 
 // A call on the caller's domain that has as many arguments as it takes.
 fn on_domain(domain: u64, count: usize, n: usize, call: DomainCall) -> Line
-    ensures { λ r. ⌜ r ≡ Grammar·exactly domain count n (OnDomain call) ⌝ }
+    ensures { λ r. ⌜ Whatever r (Grammar·exactly domain count n (OnDomain call)) ⌝ }
 {
     exactly(domain, count, n, Call::OnDomain(call))
 }
 
 // RG takes four arguments or more.
 fn at_least(domain: u64, count: usize, n: usize, call: ObjectCall) -> Line
-    ensures { λ r. ⌜ r ≡ atLeast domain count n (OnObject call) ⌝ }
+    ensures { λ r. ⌜ Whatever r (atLeast domain count n (OnObject call)) ⌝ }
 {
     if n <= count {
         return Line::Call {
             domain,
             call: Call::OnObject(call),
         };
-    }
-    Line::Unreadable
-}
-
-// A boot takes four arguments.
-fn boot(domain: u64, count: usize, homes: Homes) -> Line
-    ensures { λ r. ⌜ r ≡ bootOf domain count homes ⌝ }
-{
-    if count == 4 {
-        return Line::Boot { domain, homes };
     }
     Line::Unreadable
 }
@@ -156,28 +147,16 @@ fn register(n: usize, x: Eight) -> ObjectCall
     }
 }
 
-fn home_passwords(x: Eight) -> Homes
-    ensures { λ r. ⌜ r ≡ homesFrom x ⌝ }
-{
-    Homes {
-        first: x.0,
-        second: x.1,
-        third: x.2,
-        fourth: x.3,
-    }
-}
-
 // The call of these letters with n arguments, the first eight in x.
 pub fn call_of(domain: u64, mnemonic: Mnemonic, n: usize, x: Eight) -> Line
-    ensures { λ r. ⌜ r ≡ callOf domain mnemonic n x ⌝ }
+    ensures { λ r. ⌜ Whatever r (callOf domain mnemonic n x) ⌝ }
 {
     match mnemonic {
-        Mnemonic::Bt => return boot(domain, n, home_passwords(x)),
         Mnemonic::Rd => return on_store(domain, n, 1, Access::Read { address: x.0 }),
         Mnemonic::Wr => return on_store(domain, n, 2, write(x.0, x.1)),
         Mnemonic::Ex => return on_store(domain, n, 1, Access::Execute { address: x.0 }),
         Mnemonic::Lk => return on_store(domain, n, 2, lookup(x.0, x.1)),
-        Mnemonic::Cr => return on_object(domain, n, 3, create(x.0, x.1, x.2)),
+        Mnemonic::Cr => return on_object(domain, n, 4, create(x.0, x.1, x.2, x.3)),
         Mnemonic::Dl => return on_object(domain, n, 1, ObjectCall::Delete { base: x.0 }),
         Mnemonic::Ap => return on_object(domain, n, 3, add_password(x.0, x.1, x.2)),
         Mnemonic::Dp => return on_object(domain, n, 2, drop_password(x.0, x.1)),

@@ -1,17 +1,26 @@
 // Reading a line of the call program.
+use calls::BOOT_NUMBERS;
 use calls::Call;
 use fields::letters_of;
 use grammar::call_of;
 ghost use mathlib.Core.Path.{_≡_};
-ghost use Rattle.lines.specs.Arguments.{eightOf};
-ghost use Rattle.lines.specs.Taking.{withNumber, argumentsOf};
-ghost use Rattle.lines.specs.Grammar.{lineOf};
+ghost use lib.ListN.{length};
+ghost use Rattle.calls.specs.Boot.{bootNumbers};
+ghost use Rattle.lines.specs.declared.Letters.the-variants.{Boot, Known};
+ghost use Rattle.lines.specs.Arguments.{numbersOf, eightOf};
+ghost use Rattle.lines.specs.Cut.{behind};
+ghost use Rattle.lines.specs.Reading.{reads, Whatever};
+ghost use Rattle.lines.specs.Keeping.{withNumber, argumentsOf};
+ghost use Rattle.lines.specs.Grammar.{withArguments, lineOf};
 
 mod fields;
 mod grammar;
 
 pub use fields::find;
 pub use fields::number;
+
+// The longest line has so many bytes before its line feed.
+pub const LINE_BYTES: usize = 200;
 
 // What a field reads as.
 pub enum Field {
@@ -23,12 +32,12 @@ pub enum Field {
 // What the field of the call letters reads as.
 enum Letters {
     Unknown,
+    Boot,
     Known(Mnemonic),
 }
 
 // The letters of each call.
 enum Mnemonic {
-    Bt,
     Rd,
     Wr,
     Ex,
@@ -46,19 +55,11 @@ enum Mnemonic {
     Rt,
 }
 
-// A line as a domain and a call, or a boot with its home passwords.
+// A line as a domain and a call, or a boot, whose numbers stand beside it.
 pub enum Line {
     Unreadable,
-    Boot { domain: u64, homes: Homes },
+    Boot { domain: u64 },
     Call { domain: u64, call: Call },
-}
-
-// The home password of each domain.
-pub struct Homes {
-    pub first: u64,
-    pub second: u64,
-    pub third: u64,
-    pub fourth: u64,
 }
 
 // How many arguments a line has, and the first eight.
@@ -103,11 +104,46 @@ fn read_arguments(t: &[u8]) -> Arguments
     Arguments::Numbers(n, eight_of(values))
 }
 
-// A line: the bytes before its line feed.
-pub fn read_line(s: &[u8]) -> Line
-    ensures { λ r. ⌜ r ≡ lineOf (now (s .entry)) ⌝ }
+// A call of these letters, with the arguments in the text t.
+fn read_call(domain: u64, mnemonic: Mnemonic, t: &[u8]) -> Line
+    ensures { λ r. ⌜ Whatever r (withArguments domain (Known mnemonic) (numbersOf (behind (now (t .entry))))) ⌝ }
 {
-    if s.len() > 200 {
+    let Arguments::Numbers(n, x) = read_arguments(t) else {
+        return Line::Unreadable;
+    };
+    call_of(domain, mnemonic, n, x)
+}
+
+// A boot, with its numbers in the text t: all that it takes and no more are put into the plan.
+fn read_boot(domain: u64, t: &[u8], plan: &mut [u64]) -> Line
+    requires { ⌜ length (now plan) ≡ bootNumbers ⌝ }
+    ensures { λ r. ⌜ reads r (now (plan .exit)) ≡ withArguments domain Boot (numbersOf (behind (now (t .entry)))) ⌝ }
+{
+    let mut n = 0;
+    let mut at = 0;
+    while at < t.len() {
+        let from = at + 1;
+        at = find(t, from, 44);
+        let Field::Number(v) = number(&t[from..at]) else {
+            return Line::Unreadable;
+        };
+        if n == BOOT_NUMBERS {
+            return Line::Unreadable;
+        }
+        plan[n] = v;
+        n += 1;
+    }
+    if n < BOOT_NUMBERS {
+        return Line::Unreadable;
+    }
+    Line::Boot { domain }
+}
+
+// A line: the bytes before its line feed. The numbers of a boot are put into the plan; of the plan behind any other line nothing is said.
+pub fn read_line(s: &[u8], plan: &mut [u64; BOOT_NUMBERS]) -> Line
+    ensures { λ r. ⌜ reads r (now (plan .exit)) ≡ lineOf (now (s .entry)) ⌝ }
+{
+    if s.len() > LINE_BYTES {
         return Line::Unreadable;
     }
     let d = find(s, 0, 44);
@@ -119,11 +155,10 @@ pub fn read_line(s: &[u8]) -> Line
     }
     let from = d + 1;
     let e = find(s, from, 44);
-    let Letters::Known(mnemonic) = letters_of(&s[from..e]) else {
-        return Line::Unreadable;
-    };
-    let Arguments::Numbers(n, x) = read_arguments(&s[e..]) else {
-        return Line::Unreadable;
-    };
-    call_of(domain, mnemonic, n, x)
+    let letters = letters_of(&s[from..e]);
+    match letters {
+        Letters::Unknown => return Line::Unreadable,
+        Letters::Boot => return read_boot(domain, &s[e..], plan),
+        Letters::Known(mnemonic) => return read_call(domain, mnemonic, &s[e..]),
+    }
 }

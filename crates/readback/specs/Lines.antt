@@ -8,17 +8,18 @@ use mathlib.Core.Option.{Option, none, some}
 use native.Mathlib.Omega.{arith}
 use lib.Dec.{ltb, eqb}
 use lib.ListN.{length}
-use borrow.Author.Tests.{le-ltb, lt-ltb, ltb-true, ltb-false, ne-eqb}
+use borrow.Author.Tests.{le-ltb, lt-ltb, ltb-true, ltb-false, eq-eqb, ne-eqb}
 use Rattle.bounded.specs.Bools.{and-left, and-right, and-both}
+use Rattle.calls.specs.Boot.{bootNumbers}
 use Rattle.lines.specs.Number.{fieldOf}
 use Rattle.lines.specs.Split.{split}
 use Rattle.lines.specs.Arguments.{inFront, numbersOf}
-use Rattle.lines.specs.Letters.{lettersOf}
-use Rattle.lines.specs.Grammar.{withArguments, lineOf}
+use Rattle.lines.specs.Letters.{mnemonicOf, lettersOf}
+use Rattle.lines.specs.Reading.{unreadable, bootBy}
+use Rattle.lines.specs.Grammar.{lineBytes, withArguments, lineOf}
 use Rattle.lines.specs.Joined.{behindCommas, split-joined, plain, allPlain, split-fields}
 use Rattle.lines.specs.declared.Field.{Field}
 use Rattle.lines.specs.declared.Field.the-variants.{Empty, Number, Bad}
-use Rattle.lines.specs.declared.Line.the-variants as line
 use Rattle.text.specs.Decimal.{digitsIn, decimal}
 use Rattle.readback.specs.Back.{reads-back, only-digits}
 
@@ -61,19 +62,35 @@ numbers-back (v ∷ vs) h =
 abbrev pub written : ℕ → List ℕ → List ℕ → List ℕ
 written d letters vs = decimal d ++ behindCommas (letters ∷ map decimal vs)
 
--- a written line of at most 200 bytes reads as the call of its letters with its arguments
-pub written-read : (d : ℕ) (letters vs : List ℕ) → d < 2 ^ 64 → plain letters ≡ true → words vs ≡ true → length (written d letters vs) ≤ 200
+-- a written line that is not too long reads as the call of its letters with its arguments
+pub written-read : (d : ℕ) (letters vs : List ℕ) → d < 2 ^ 64 → plain letters ≡ true → words vs ≡ true → length (written d letters vs) ≤ lineBytes
     → lineOf (written d letters vs) ≡ withArguments d (lettersOf letters) (some vs)
 unfolding lineOf allPlain decimal
 written-read d letters vs h p w l =
-    rw (le-ltb 200 (length (written d letters vs)) l, split-fields (letters ∷ map decimal vs) (decimal d) (digits-plain 20 d) (and-both p (decimals-plain vs)), reads-back d h, numbers-back vs w)
+    rw (le-ltb lineBytes (length (written d letters vs)) l, split-fields (letters ∷ map decimal vs) (decimal d) (digits-plain 20 d) (and-both p (decimals-plain vs)), reads-back d h, numbers-back vs w)
+
+-- BT
+abbrev pub bootLetters : List ℕ
+bootLetters = 66 ∷ 84 ∷ []
+
+-- a boot written with its numbers reads as that boot, and one with another count of numbers is unreadable
+module _ (d : ℕ) (plan : List ℕ) (h : d < 2 ^ 64) (w : words plan ≡ true) (l : length (written d bootLetters plan) ≤ lineBytes) where
+  boot-read : lineOf (written d bootLetters plan) ≡ cond (eqb (length plan) bootNumbers) (bootBy d plan) unreadable
+  unfolding plain mnemonicOf
+  boot-read = written-read d bootLetters plan h refl w l
+
+  pub boot-back : length plan ≡ bootNumbers → lineOf (written d bootLetters plan) ≡ bootBy d plan
+  boot-back n = boot-read ∙ rw (eq-eqb _ _ n)
+
+  pub boot-miscounted : (length plan ≡ bootNumbers → ⊥) → lineOf (written d bootLetters plan) ≡ unreadable
+  boot-miscounted n = boot-read ∙ rw (ne-eqb _ _ n)
 
 -- a line that is written so
 pub record Written (s : List ℕ) : Type 0 where
   pub domain : ℕ
   pub letters : List ℕ
   pub arguments : List ℕ
-  pub short : length s ≤ 200
+  pub short : length s ≤ lineBytes
   pub small : domain < 2 ^ 64
   pub words-all : words arguments ≡ true
   pub text : s ≡ written domain letters arguments
@@ -97,12 +114,12 @@ numbers-only (f ∷ fs) vs h = go (fieldOf f) refl (numbersOf fs) refl vs h (num
         rw same (rw (a .0, b .0), rw (lt-ltb v (2 ^ 64) (a .1)) (b .1))
 
 -- every line is unreadable or written so
-pub readable-written : (s : List ℕ) → (lineOf s ≡ line.Unreadable) ⊎ Written s
+pub readable-written : (s : List ℕ) → (lineOf s ≡ unreadable) ⊎ Written s
 unfolding lineOf behindCommas
-readable-written s = by-length (ltb 200 (length s)) refl
+readable-written s = by-length (ltb lineBytes (length s)) refl
   where
-    by-numbers : ltb 200 (length s) ≡ false → (d : ℕ) → fieldOf (split s .first) ≡ Number d → (l : List ℕ) (fs : List (List ℕ)) → split s .others ≡ l ∷ fs
-        → (o : Option (List ℕ)) → numbersOf fs ≡ o → (lineOf s ≡ line.Unreadable) ⊎ Written s
+    by-numbers : ltb lineBytes (length s) ≡ false → (d : ℕ) → fieldOf (split s .first) ≡ Number d → (l : List ℕ) (fs : List (List ℕ)) → split s .others ≡ l ∷ fs
+        → (o : Option (List ℕ)) → numbersOf fs ≡ o → (lineOf s ≡ unreadable) ⊎ Written s
     by-numbers h d e l fs q none k = inl (rw (h, e, q, k))
     by-numbers h d e l fs q (some vs) k =
         let a = only-digits (split s .first) d e in
@@ -112,20 +129,20 @@ readable-written s = by-length (ltb 200 (length s)) refl
           domain = d;
           letters = l;
           arguments = vs;
-          short = ltb-false 200 (length s) h;
+          short = ltb-false lineBytes (length s) h;
           small = a .1;
           words-all = b .1;
           text = sym (split-joined s) ∙ rw (q, a .0, b .0);
           reads = rw (h, e, q, k);
         })
 
-    by-fields : ltb 200 (length s) ≡ false → (f : Field) → fieldOf (split s .first) ≡ f → (fs : List (List ℕ)) → split s .others ≡ fs
-        → (lineOf s ≡ line.Unreadable) ⊎ Written s
+    by-fields : ltb lineBytes (length s) ≡ false → (f : Field) → fieldOf (split s .first) ≡ f → (fs : List (List ℕ)) → split s .others ≡ fs
+        → (lineOf s ≡ unreadable) ⊎ Written s
     by-fields h Empty e fs q = inl (rw (h, e))
     by-fields h Bad e fs q = inl (rw (h, e))
     by-fields h (Number d) e [] q = inl (rw (h, e, q))
     by-fields h (Number d) e (l ∷ fs) q = by-numbers h d e l fs q (numbersOf fs) refl
 
-    by-length : (t : Bool) → ltb 200 (length s) ≡ t → (lineOf s ≡ line.Unreadable) ⊎ Written s
+    by-length : (t : Bool) → ltb lineBytes (length s) ≡ t → (lineOf s ≡ unreadable) ⊎ Written s
     by-length true h = inl (rw h)
     by-length false h = by-fields h (fieldOf (split s .first)) refl (split s .others) refl

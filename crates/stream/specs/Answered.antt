@@ -9,15 +9,16 @@ use Rattle.calls.specs.Step.{world, unchecked}
 use Rattle.calls.specs.View.{World}
 use Rattle.lines.specs.Grammar.{lineOf}
 use Rattle.lines.specs.Until.{until}
+use Rattle.lines.specs.Reading.{Reading, reads}
 use Rattle.lines.specs.declared.Line.{Line}
 use Rattle.stream.specs.Run.{Carrying, Progress, reply, nextNumber}
-use Rattle.stream.specs.Feed.{progressAt, told, heldByte}
+use Rattle.stream.specs.Feed.{progressAt, told, heldBytes, heldByte}
 use Rattle.stream.specs.Feeding.{Fed, fed-part, fed-line, at-feed}
 use Rattle.stream.specs.Room.{shorter}
 
 module _ (carry : Carrying) (more : List ℕ → ℕ → List ℕ) {a : Progress} {piece : List ℕ} {from end : ℕ} {w : World} {number : ℕ} (line out : List ℕ) (at : ℕ) where
   -- the piece is taken behind the line feed, and the line's answer stands in the buffer
-  pub fed-told : {reading : Line} {w′ : World} {number′ : ℕ} (out′ : List ℕ) (at′ : ℕ)
+  pub fed-told : {reading : Reading} {w′ : World} {number′ : ℕ} (out′ : List ℕ) (at′ : ℕ)
       → Fed carry more a piece from (record { world = w; number = number; line = line; text = take at out }) → end ≡ from + until 10 (drop from piece)
       → (end ≡ length piece → ⊥) → reading ≡ lineOf (foldl more line (take (end - from) (drop from piece))) → number′ ≡ nextNumber number
       → told number out at out′ at′ w′ (reply carry w reading)
@@ -30,22 +31,22 @@ module _ (carry : Carrying) (more : List ℕ → ℕ → List ℕ) {a : Progress
 -- where the program stands at byte `from` of a piece, with a store of n words and a buffer of `size` bytes
 pub record Stands (a : Progress) (piece : List ℕ) (n size : ℕ) (s : State) (words : List ℕ) (number : ℕ) (line : List ℕ) (held : ℕ) (out : List ℕ) (at from : ℕ) : Type 0 where
   pub fed : Fed unchecked heldByte a piece from (progressAt s words number line held out at)
-  pub few : held ≤ 201
-  pub hold : length line ≡ 201
+  pub few : held ≤ heldBytes
+  pub hold : length line ≡ heldBytes
   pub buffer : length out ≡ size
   pub store : length words ≡ n
   pub within : at ≤ length out
 
 -- and behind a line that is answered there, of whatever kind
 pub stands-told : {a : Progress} {piece : List ℕ} {n size : ℕ} {s : State} {words : List ℕ} {number : ℕ} {line : List ℕ} {held : ℕ} {out : List ℕ} {at from end : ℕ}
-    {reading l : Line} {number′ : ℕ} {line′ : List ℕ} {s′ : State} {words′ out′ : List ℕ} {at′ : ℕ}
+    {l : Line} {number′ : ℕ} {line′ : List ℕ} {s′ : State} {words′ out′ : List ℕ} {at′ : ℕ} (reading : Line) (plan : List ℕ)
     → Stands a piece n size s words number line held out at from → end ≡ from + until 10 (drop from piece) → (end ≡ length piece → ⊥)
-    → reading ≡ lineOf (foldl heldByte (take held line) (take (end - from) (drop from piece))) → number′ ≡ nextNumber number → length line′ ≡ length line
-    → reading ≡ l → told number out at out′ at′ (world s′ words′) (reply unchecked (world s words) l) → length words′ ≡ length words → length out′ ≡ length out
+    → reads reading plan ≡ lineOf (foldl heldByte (take held line) (take (end - from) (drop from piece))) → number′ ≡ nextNumber number → length line′ ≡ length line
+    → reading ≡ l → told number out at out′ at′ (world s′ words′) (reply unchecked (world s words) (reads l plan)) → length words′ ≡ length words → length out′ ≡ length out
     → Stands a piece n size s′ words′ number′ line′ 0 out′ at′ (end + 1)
-stands-told {line = line} {held = held} {out = out} {at = at} {out′ = out′} {at′ = at′} v to ne e m k q t w o =
+stands-told {line = line} {held = held} {out = out} {at = at} {out′ = out′} {at′ = at′} reading plan v to ne e m k q t w o =
     record {
-      fed = fed-told unchecked heldByte (take held line) out at out′ at′ (v .fed) to ne (sym q ∙ e) m t;
+      fed = fed-told unchecked heldByte (take held line) out at out′ at′ (v .fed) to ne (ap (λ (z : Line). reads z plan) (sym q) ∙ e) m t;
       few = omega arith;
       hold = k ∙ v .hold;
       buffer = o ∙ v .buffer;

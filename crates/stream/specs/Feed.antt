@@ -9,6 +9,7 @@ use Rattle.state.specs.Places.{emptyState}
 use Rattle.state.specs.declared.State.{State}
 use Rattle.calls.specs.Step.{world, unchecked}
 use Rattle.calls.specs.View.{World}
+use Rattle.lines.specs.Grammar.{lineBytes}
 use Rattle.text.specs.Answer.{answerLine, printed, printedEnd}
 use Rattle.stream.specs.Run.{Carrying, Reply, Progress, withLine, onByteBy}
 use Rattle.stream.specs.declared.Feed.{Feed}
@@ -20,9 +21,13 @@ progressAt s words number line held out at = record { world = world s words; num
 abbrev pub progressOf : Feed → List ℕ → List ℕ → Progress
 progressOf f words out = progressAt (f .state) words (f .number) (f .line) (f .held) out (f .at)
 
+-- of a line it holds one byte more than the longest has, enough to tell that it is too long; the code's `HELD_BYTES`
+abbrev pub heldBytes : ℕ
+heldBytes = lineBytes + 1
+
 -- what it holds at first
 abbrev pub startFeed : Feed
-startFeed = record { state = emptyState; number = 1; line = replicate 201 0; held = 0; at = 0; taken = 0 }
+startFeed = record { state = emptyState; number = 1; line = replicate heldBytes 0; held = 0; at = 0; taken = 0 }
 
 -- an empty buffer after the last line, and where the text in it ends
 abbrev pub finishedText : Feed → List ℕ → List ℕ
@@ -44,16 +49,16 @@ abbrev pub told : ℕ → List ℕ → ℕ → List ℕ → ℕ → World → Re
 told number out at out′ at′ w a =
     (take at′ out′ ≡ take at out ++ answerLine number (a .number) (a .values)) × (w ≡ a .world) × (at′ ≤ length out)
 
--- one byte more, 201 at most
+-- one byte more, where it is held
 abbrev pub heldByte : List ℕ → ℕ → List ℕ
-heldByte line b = cond (ltb (length line) 201) (line ++ (b ∷ [])) line
+heldByte line b = cond (ltb (length line) heldBytes) (line ++ (b ∷ [])) line
 
 abbrev pub onHeld : Carrying → Progress → ℕ → Progress
 onHeld carry = onByteBy carry heldByte
 
--- a progress with the first 201 bytes of its line
+-- a progress with the bytes of its line that are held
 abbrev pub cut : Progress → Progress
-cut r = withLine r (take 201 (r .line))
+cut r = withLine r (take heldBytes (r .line))
 
 -- the same run with nothing written yet
 abbrev pub flushed : Progress → Progress
@@ -70,7 +75,7 @@ emptied f = record { state = f .state; number = f .number; line = f .line; held 
 
 -- what is written from a feed on: for each piece that `feed_piece` takes from an empty buffer its text, and what `finish` adds
 pub data Turns : Feed → List ℕ → List (List ℕ) → List ℕ → Type 0 where
-  finish : (f : Feed) (words out : List ℕ) → length (f .line) ≡ 201 → 273 ≤ length out → Turns f words [] (take (finishedEnd f out) (finishedText f out))
+  finish : (f : Feed) (words out : List ℕ) → length (f .line) ≡ heldBytes → 273 ≤ length out → Turns f words [] (take (finishedEnd f out) (finishedText f out))
   turn : (f : Feed) (words out : List ℕ) (p : List ℕ) (f′ : Feed) (words′ out′ : List ℕ) (ps : List (List ℕ)) (t : List ℕ)
       → progressOf f′ words′ out′ ≡ foldl (onHeld unchecked) (progressOf (emptied f) words out) p → Turns f′ words′ ps t
       → Turns f words (p ∷ ps) (take (f′ .at) out′ ++ t)

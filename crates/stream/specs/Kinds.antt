@@ -10,6 +10,7 @@ use Rattle.state.specs.Update.{withEstate, withDomain}
 use Rattle.state.specs.declared.Table.{Table}
 use Rattle.state.specs.declared.Frame.{Frame}
 use Rattle.state.specs.declared.Domain.{Domain}
+use Rattle.state.specs.declared.Accounts.{Accounts}
 use Rattle.state.specs.declared.State.{State}
 use Rattle.calls.specs.Answers.{numberOf, valueOf, refusalNumber, valuesFrom}
 use Rattle.calls.specs.View.{World}
@@ -28,11 +29,11 @@ use Rattle.calls.specs.declared.Answer.{Answer}
 use Rattle.calls.specs.declared.Outcome.{Outcome}
 use Rattle.calls.specs.declared.Altered.{Altered}
 use Rattle.calls.specs.declared.Moved.{Moved}
-use Rattle.lines.specs.declared.Homes.{Homes}
+use Rattle.lines.specs.Reading.{bootBy, callBy, reads}
 use Rattle.lines.specs.declared.Line.{Line}
 use Rattle.lines.specs.declared.Line.the-variants.{Unreadable, Boot, Call}
 use Rattle.text.specs.Answer.{printed, printedEnd}
-use Rattle.stream.specs.Run.{stateAfter, homesOf, reply}
+use Rattle.stream.specs.Run.{stateAfter, reply}
 use Rattle.stream.specs.Feed.{told}
 use Rattle.stream.specs.Told.{printed-told, answer-told}
 use Rattle.stream.specs.declared.Kind.{Kind}
@@ -41,27 +42,27 @@ use Rattle.stream.specs.declared.NewEstate.{NewEstate}
 
 -- the kind of a line, with a store of n words
 abbrev pub IsKind : Kind → ℕ → Line → Type 0
-IsKind (kind.Known number) n l = (w : World) → length (w .words) ≡ n → reply unchecked w l ≡ record { number = number; values = 0 ∷ []; world = w }
+IsKind (kind.Known number) n l = (plan : List ℕ) (w : World) → length (w .words) ≡ n → reply unchecked w (reads l plan) ≡ record { number = number; values = 0 ∷ []; world = w }
 IsKind (kind.Access d c) n l = (n ≡ 8192) × (d < 4) × (l ≡ Call d (OnStore c))
 IsKind (kind.Object d c) n l = (n ≡ 8192) × (d < 4) × (l ≡ Call d (OnObject c))
 IsKind (kind.Domain d c) n l = (n ≡ 8192) × (d < 4) × (l ≡ Call d (OnDomain c))
-IsKind (kind.Boot d homes) n l = l ≡ Boot d homes
+IsKind (kind.Boot d) n l = l ≡ Boot d
 
 -- an access, and a call on objects, answered and printed, in every state with these parts
 abbrev pub accessTold : Table → Frame → Access → ℕ → List ℕ → List ℕ → List ℕ → ℕ → List ℕ → ℕ → Type 0
 accessTold t f c number words words′ out at out′ at′ =
     (s : State) (d : ℕ) → Entered words d → s .table ≡ t → domainAt s d .active ≡ f
-    → told number out at out′ at′ (world s words′) (reply unchecked (world s words) (Call d (OnStore c)))
+    → told number out at out′ at′ (world s words′) (reply unchecked (world s words) (callBy d (OnStore c)))
 
-abbrev pub objectTold : Table → ℕ → Frame → ObjectCall → ℕ → List ℕ → List ℕ → List ℕ → ℕ → List ℕ → NewEstate → Type 0
-objectTold t d f c number words words′ out at out′ r =
-    (s : State) → Entered words d → s .table ≡ t → domainAt s d .active ≡ f
-    → told number out at out′ (r .at) (world (withEstate s (r .place) (r .estate)) words′) (reply unchecked (world s words) (Call d (OnObject c)))
+abbrev pub objectTold : Table → Accounts → ℕ → Frame → ObjectCall → ℕ → List ℕ → List ℕ → List ℕ → ℕ → List ℕ → NewEstate → Type 0
+objectTold t x d f c number words words′ out at out′ r =
+    (s : State) → Entered words d → s .table ≡ t → s .accounts ≡ x → domainAt s d .active ≡ f
+    → told number out at out′ (r .at) (world (withEstate s (r .place) (r .estate)) words′) (reply unchecked (world s words) (callBy d (OnObject c)))
 
 -- a line that is not readable is answered 1
 pub unread-kind : (n : ℕ) {l : Line} → l ≡ Unreadable → IsKind (kind.Known 1) n l
 unfolding reply
-unread-kind n e w h = rw e
+unread-kind n e plan w h = rw e
 
 -- a caller that is known, with a store of n words
 pub known-caller : (n d k : ℕ) → callerOf n d ≡ Caller·Known k → (n ≡ 8192) × (k < 4) × (k ≡ d)
@@ -74,7 +75,7 @@ known-caller n d k h =
 -- a call of a caller that is not known is refused
 pub refused-kind : (n d : ℕ) (c : Asked) (why : Refusal) → callerOf n d ≡ Caller·Refused why → IsKind (kind.Known (refusalNumber why)) n (Call d c)
 unfolding reply
-refused-kind n d c why h w k = rw (← by-caller (w .state) (w .words) d c why (rw k h))
+refused-kind n d c why h plan w k = rw (← by-caller (w .state) (w .words) d c why (rw k h))
 
 -- how the calls are printed
 pub access-told : (t : Table) (f : Frame) (c : Access) (a : Answer) (words words′ out : List ℕ) (at n : ℕ) {out′ : List ℕ} {at′ : ℕ}
@@ -85,43 +86,43 @@ unfolding reply
 access-told t f c a words words′ out at n g h p q s d e i j =
     rw (← g s d e i j) (printed-told out at n (numberOf a) (valueOf a ∷ []) (world s words′) h (omega arith) p q)
 
-pub object-told : (t : Table) (d : ℕ) (f : Frame) (c : ObjectCall) (r : Altered) (words words′ out : List ℕ) (at n : ℕ) {out′ : List ℕ} {at′ : ℕ}
-    → Alters t d f words c r words′ → at + 273 ≤ length out
+pub object-told : (t : Table) (x : Accounts) (d : ℕ) (f : Frame) (c : ObjectCall) (r : Altered) (words words′ out : List ℕ) (at n : ℕ) {out′ : List ℕ} {at′ : ℕ}
+    → Alters t x d f words c r words′ → at + 273 ≤ length out
     → out′ ≡ printed out at n (numberOf (r .answer)) (valueOf (r .answer) ∷ []) → at′ ≡ printedEnd out at n (numberOf (r .answer)) (valueOf (r .answer) ∷ [])
-    → objectTold t d f c n words words′ out at out′ (record { place = r .place; estate = r .estate; at = at′ })
+    → objectTold t x d f c n words words′ out at out′ (record { place = r .place; estate = r .estate; at = at′ })
 unfolding reply
-object-told t d f c r words words′ out at n g h p q s e i j =
-    rw (← g s e i j) (printed-told out at n (numberOf (r .answer)) (valueOf (r .answer) ∷ []) (world (withEstate s (r .place) (r .estate)) words′) h (omega arith) p q)
+object-told t x d f c r words words′ out at n g h p q s e i a j =
+    rw (← g s e i a j) (printed-told out at n (numberOf (r .answer)) (valueOf (r .answer) ∷ []) (world (withEstate s (r .place) (r .estate)) words′) h (omega arith) p q)
 
 -- an estate past the last one changes nothing, and nor does the first one as it is
-pub object-past : (t : Table) (d : ℕ) (f : Frame) (c : ObjectCall) (n : ℕ) (words words′ out : List ℕ) (at : ℕ) (out′ : List ℕ) (r : NewEstate)
-    → length (t .estates) ≡ 4 → 4 ≤ r .place → objectTold t d f c n words words′ out at out′ r
-    → objectTold t d f c n words words′ out at out′ (record { place = 0; estate = estateAt t 0; at = r .at })
-object-past t d f c n words words′ out at out′ r l b g s e i j =
+pub object-past : (t : Table) (x : Accounts) (d : ℕ) (f : Frame) (c : ObjectCall) (n : ℕ) (words words′ out : List ℕ) (at : ℕ) (out′ : List ℕ) (r : NewEstate)
+    → length (t .estates) ≡ 4 → 4 ≤ r .place → objectTold t x d f c n words words′ out at out′ r
+    → objectTold t x d f c n words words′ out at out′ (record { place = 0; estate = estateAt t 0; at = r .at })
+object-past t x d f c n words words′ out at out′ r l b g s e i a j =
     let k : withEstate s (r .place) (r .estate) ≡ s = rw (i, set-out (t .estates) (r .place) (r .estate) (omega arith)) in
     let o : withEstate s 0 (estateAt t 0) ≡ s = rw (← i, set-getD (s .table .estates) 0 noEstate) in
-    rw o (rw k at (g s e i j))
+    rw o (rw k at (g s e i a j))
 
 pub domain-told : (t : Table) (m : Domain) (c : DomainCall) (r : Moved) (words out : List ℕ) (at n : ℕ) {out′ : List ℕ} {at′ : ℕ}
     → Moves t m words c r → length (r .fields .values) ≡ 11 → at + 273 ≤ length out
     → out′ ≡ printed out at n (numberOf (r .answer)) (valuesFrom (r .answer) (r .fields))
     → at′ ≡ printedEnd out at n (numberOf (r .answer)) (valuesFrom (r .answer) (r .fields))
     → (s : State) (d : ℕ) → Entered words d → s .table ≡ t → domainAt s d ≡ m
-    → told n out at out′ at′ (world (withDomain s d (r .domain)) words) (reply unchecked (world s words) (Call d (OnDomain c)))
+    → told n out at out′ at′ (world (withDomain s d (r .domain)) words) (reply unchecked (world s words) (callBy d (OnDomain c)))
 unfolding reply
 domain-told t m c r words out at n g f h p q s d e i j =
     rw (← g s d e i j) (answer-told (r .answer) (r .fields) (world (withDomain s d (r .domain)) words) out at n f h p q)
 
 -- a boot, printed: a refused one keeps the state that stands
-pub boot-told : (s : State) (words : List ℕ) (d : ℕ) (homes : Homes) (o : Outcome) (words′ : List ℕ) (after : State) (out : List ℕ) (at n : ℕ) {out′ : List ℕ} {at′ : ℕ}
-    → result o words′ ≡ boot words d (homesOf homes) → stateAfter s (o .answer) (o .state) ≡ after → length (o .fields .values) ≡ 11 → at + 273 ≤ length out
+pub boot-told : (s : State) (words : List ℕ) (d : ℕ) (plan : List ℕ) (o : Outcome) (words′ : List ℕ) (after : State) (out : List ℕ) (at n : ℕ) {out′ : List ℕ} {at′ : ℕ}
+    → result o words′ ≡ boot words d plan → stateAfter s (o .answer) (o .state) ≡ after → length (o .fields .values) ≡ 11 → at + 273 ≤ length out
     → out′ ≡ printed out at n (numberOf (o .answer)) (valuesFrom (o .answer) (o .fields))
     → at′ ≡ printedEnd out at n (numberOf (o .answer)) (valuesFrom (o .answer) (o .fields))
-    → told n out at out′ at′ (world after words′) (reply unchecked (world s words) (Boot d homes))
+    → told n out at out′ at′ (world after words′) (reply unchecked (world s words) (bootBy d plan))
 unfolding reply
-boot-told s words d homes o words′ after out at n e k f h p q = rw (← e, ← k) (answer-told (o .answer) (o .fields) (world (stateAfter s (o .answer) (o .state)) words′) out at n f h p q)
+boot-told s words d plan o words′ after out at n e k f h p q = rw (← e, ← k) (answer-told (o .answer) (o .fields) (world (stateAfter s (o .answer) (o .state)) words′) out at n f h p q)
 
 -- a line whose answer is known, printed
-pub known-told : (w : World) (l : Line) (a : ℕ) (out : List ℕ) (at n : ℕ) {out′ : List ℕ} {at′ : ℕ} → IsKind (kind.Known a) (length (w .words)) l → at + 273 ≤ length out
-    → out′ ≡ printed out at n a (0 ∷ []) → at′ ≡ printedEnd out at n a (0 ∷ []) → told n out at out′ at′ w (reply unchecked w l)
-known-told w l a out at n k h p q = rw (k w refl) (printed-told out at n a (0 ∷ []) w h (omega arith) p q)
+pub known-told : (w : World) (l : Line) (plan : List ℕ) (a : ℕ) (out : List ℕ) (at n : ℕ) {out′ : List ℕ} {at′ : ℕ} → IsKind (kind.Known a) (length (w .words)) l → at + 273 ≤ length out
+    → out′ ≡ printed out at n a (0 ∷ []) → at′ ≡ printedEnd out at n a (0 ∷ []) → told n out at out′ at′ w (reply unchecked w (reads l plan))
+known-told w l plan a out at n k h p q = rw (k plan w refl) (printed-told out at n a (0 ∷ []) w h (omega arith) p q)

@@ -1,4 +1,4 @@
--- What the program writes, holding 201 bytes of a line and leaving out check 3, is what document 01 says.
+-- What the program writes, holding the first bytes of a line and leaving out check 3, is what document 01 says.
 use Prim.Native.Nat.{ℕ}
 use mathlib.Core.Path.{_≡_, refl, _∙_, sym, ap}
 use mathlib.Core.Bool.{Bool, true, false, cond}
@@ -15,30 +15,29 @@ use Rattle.calls.specs.Laws.Booted.{boot-sound}
 use Rattle.calls.specs.declared.Answer.{Answer}
 use Rattle.calls.specs.declared.Answer.the-variants.{Done, Refused}
 use Rattle.lines.specs.Grammar.{lineOf}
-use Rattle.lines.specs.declared.Line.{Line}
-use Rattle.lines.specs.declared.Line.the-variants.{Unreadable, Boot, Call}
-use Rattle.stream.specs.Run.{Progress, called, reply, homesOf, stateAfter, lineDone, withLine, onByteBy, extended, header, started, lastLine, output}
+use Rattle.lines.specs.Reading.{Reading, unreadable, bootBy, callBy}
+use Rattle.stream.specs.Run.{Progress, called, reply, stateAfter, lineDone, withLine, onByteBy, extended, header, started, lastLine, output}
 use Rattle.stream.specs.Feed.{heldByte, onHeld, cut, joined}
 use Rattle.stream.specs.Held.{cut-run, cut-last}
 use Rattle.stream.specs.Pieces.{writtenFor, pieces-whole}
 
 -- on a sound state a line is answered the same without check 3
-reply-unchecked : (w : World) (l : Line) → sound (w .state) ≡ true → reply unchecked w l ≡ reply step w l
+reply-unchecked : (w : World) (l : Reading) → sound (w .state) ≡ true → reply unchecked w l ≡ reply step w l
 unfolding reply
-reply-unchecked w Unreadable h = refl
-reply-unchecked w (Boot d homes) h = refl
-reply-unchecked w (Call d c) h = ap called (sym (sound-unchecked w d c h))
+reply-unchecked w unreadable h = refl
+reply-unchecked w (bootBy d plan) h = refl
+reply-unchecked w (callBy d c) h = ap called (sym (sound-unchecked w d c h))
 
 -- and leaves a sound state
-reply-sound : (w : World) (l : Line) → sound (w .state) ≡ true → sound (reply step w l .world .state) ≡ true
+reply-sound : (w : World) (l : Reading) → sound (w .state) ≡ true → sound (reply step w l .world .state) ≡ true
 unfolding reply
-reply-sound w Unreadable h = h
-reply-sound w (Boot d homes) h = go (boot (w .words) d (homesOf homes) .outcome .answer)
+reply-sound w unreadable h = h
+reply-sound w (bootBy d plan) h = go (boot (w .words) d plan .outcome .answer)
   where
-    go : (a : Answer) → sound (stateAfter (w .state) a (boot (w .words) d (homesOf homes) .outcome .state)) ≡ true
-    go (Done v) = boot-sound (w .words) d (homesOf homes)
+    go : (a : Answer) → sound (stateAfter (w .state) a (boot (w .words) d plan .outcome .state)) ≡ true
+    go (Done v) = boot-sound (w .words) d plan
     go (Refused why) = h
-reply-sound w (Call d c) h = step-sound w d c h
+reply-sound w (callBy d c) h = step-sound w d c h
 
 module _ (more : List ℕ → ℕ → List ℕ) where
   byte-unchecked : (r : Progress) (b : ℕ) → sound (r .world .state) ≡ true → onByteBy unchecked more r b ≡ onByteBy step more r b
@@ -67,7 +66,7 @@ started-cut : cut started ≡ started
 unfolding started
 started-cut = refl
 
--- the run of the program, cut at 201 bytes a line and without check 3
+-- the run of the program, each line cut at the bytes that are held and without check 3
 program-run : (s : List ℕ) → foldl (onHeld unchecked) started s ≡ cut (foldl (onByteBy step extended) started s)
 program-run s =
     ap (λ (z : Progress). foldl (onHeld unchecked) z s) (sym started-cut)

@@ -43,10 +43,14 @@ reached-none words = record { input = []; led = refl }
 pub reached-on : (words : List ℕ) (f : Feed) (words′ t : List ℕ) (f′ : Feed) (words″ : List ℕ) → Reached words f words′ → Leads f words′ t f′ words″ → Reached words f′ words″
 reached-on words f words′ t f′ words″ r l = record { input = r .input ++ t; led = leads-on startFeed words (r .input) f words′ t f′ words″ (r .led) l }
 
--- from a store of zeros: the program stands where document 01's run stands behind that input, with the first 201 bytes of its line
+-- from a store of zeros: the program stands where document 01's run stands behind that input, with the bytes of its line that are held
 pub reached-run : (f : Feed) (words : List ℕ) (r : Reached (replicate 8192 0) f words) → standing f words ≡ flushed (cut (foldl onByte started (r .input)))
 unfolding started
 reached-run f words r =
     r .led
     ∙ sym (flushed-run unchecked heldByte started (r .input))
     ∙ ap flushed (cut-run unchecked (r .input) started ∙ ap cut (run-unchecked extended (r .input) started empty-sound))
+
+-- STATE AND STORE OF A FEED that some input leads to: those behind that input by document 01
+pub reached-world : (f : Feed) (words : List ℕ) (r : Reached (replicate 8192 0) f words) → world (f .state) words ≡ foldl onByte started (r .input) .world
+reached-world f words r = ap (λ (z : Progress). z .world) (reached-run f words r)

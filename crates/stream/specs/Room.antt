@@ -12,7 +12,7 @@ use Rattle.bounded.specs.Bools.{and-left, and-right, or-left, or-unless}
 use Rattle.state.specs.declared.State.{State}
 use Rattle.calls.specs.Step.{unchecked}
 use Rattle.stream.specs.Run.{Progress}
-use Rattle.stream.specs.Feed.{progressAt, progressOf, roomFor, stopped, onHeld}
+use Rattle.stream.specs.Feed.{progressAt, progressOf, heldBytes, roomFor, stopped, onHeld}
 use Rattle.stream.specs.declared.Feed.{Feed}
 
 pub room-short : (length at : ℕ) → length < 273 → false ≡ roomFor length at
@@ -48,7 +48,7 @@ take-clip s n = go (leb n (length s)) refl
         rw m (take-all (length s) s (omega arith) ∙ sym (take-all n s (omega arith)))
 
 -- what is held and what is written, clipped to their room, is what they were
-pub clip-progress : (s : State) (words : List ℕ) (number : ℕ) (line : List ℕ) (held : ℕ) (out : List ℕ) (at : ℕ) {held′ at′ : ℕ} → length line ≡ 201 → held′ ≡ min held 201 → at′ ≡ min at (length out)
+pub clip-progress : (s : State) (words : List ℕ) (number : ℕ) (line : List ℕ) (held : ℕ) (out : List ℕ) (at : ℕ) {held′ at′ : ℕ} → length line ≡ heldBytes → held′ ≡ min held heldBytes → at′ ≡ min at (length out)
     → progressAt s words number line held′ out at′ ≡ progressAt s words number line held out at
 clip-progress s words number line held out at {held′} {at′} l h a =
     let e : take held′ line ≡ take held line = rw (h, ← l) (take-clip line held) in

@@ -10,13 +10,11 @@ use Rattle.calls.specs.Answers.{numberOf, valuesOf}
 use Rattle.calls.specs.View.{World}
 use Rattle.calls.specs.Step.{Result, world, worldOf, step}
 use Rattle.calls.specs.Boot.{boot}
-use Rattle.calls.specs.declared.Call.{Call as Asked}
+use Rattle.calls.specs.declared.Call.{Call}
 use Rattle.calls.specs.declared.Answer.{Answer}
 use Rattle.calls.specs.declared.Answer.the-variants.{Done, Refused}
 use Rattle.lines.specs.Grammar.{lineOf}
-use Rattle.lines.specs.declared.Line.{Line}
-use Rattle.lines.specs.declared.Line.the-variants.{Unreadable, Boot, Call}
-use Rattle.lines.specs.declared.Homes.{Homes}
+use Rattle.lines.specs.Reading.{Reading, unreadable, bootBy, callBy}
 use Rattle.text.specs.Answer.{answerLine}
 
 -- what a line is answered with: a number, what stands behind it, and the state and store after it
@@ -27,7 +25,7 @@ pub record Reply : Type 0 where
 
 -- how a call is carried out: `step`, or `unchecked` where the state is known to be sound
 abbrev pub Carrying : Type 0
-Carrying = World → ℕ → Asked → Result
+Carrying = World → ℕ → Call → Result
 
 -- a line that is not readable is answered 1, and changes nothing
 abbrev pub unread : World → Reply
@@ -42,9 +40,6 @@ abbrev pub stateAfter : State → Answer → State → State
 stateAfter old (Done value) new = new
 stateAfter old (Refused why) new = old
 
-abbrev pub homesOf : Homes → List ℕ
-homesOf h = h .first ∷ h .second ∷ h .third ∷ h .fourth ∷ []
-
 abbrev pub bootedFrom : World → Result → Reply
 bootedFrom w r =
     record {
@@ -53,14 +48,14 @@ bootedFrom w r =
       world = world (stateAfter (w .state) (r .outcome .answer) (r .outcome .state)) (r .words);
     }
 
-abbrev pub bootReply : World → ℕ → Homes → Reply
-bootReply w d homes = bootedFrom w (boot (w .words) d (homesOf homes))
+abbrev pub bootReply : World → ℕ → List ℕ → Reply
+bootReply w d plan = bootedFrom w (boot (w .words) d plan)
 
 -- what is answered to a line
-unfoldable pub reply : Carrying → World → Line → Reply
-reply carry w Unreadable = unread w
-reply carry w (Boot d homes) = bootReply w d homes
-reply carry w (Call d c) = called (carry w d c)
+unfoldable pub reply : Carrying → World → Reading → Reply
+reply carry w unreadable = unread w
+reply carry w (bootBy d plan) = bootReply w d plan
+reply carry w (callBy d c) = called (carry w d c)
 
 -- the program between two bytes: the number of the line that it reads, the bytes of that line so far, and what it wrote
 pub record Progress : Type 0 where

@@ -1,7 +1,7 @@
 -- The program from start to finish: its functions, called one after the other, write what document 01 says.
 use Prim.Native.Nat.{ℕ, _≤_}
 use mathlib.Core.Path.{_≡_, _∙_, ap, refl}
-use mathlib.Core.List.{List, [], _∷_, _++_, foldl}
+use mathlib.Core.List.{List, [], _∷_, _++_}
 use mathlib.Core.Bool.{Bool, true, false, cond}
 use native.Mathlib.Omega.{arith}
 use lib.ListN.{length, take, replicate, length-take}
@@ -12,7 +12,7 @@ use Rattle.text.specs.Answer.{answerLine, printed, printedEnd}
 use Rattle.stream.specs.Run.{Progress, header, started, lastLine, output}
 use Rattle.stream.specs.Pieces.{writtenFor, written-flushed}
 use Rattle.stream.specs.Program.{program-writes}
-use Rattle.stream.specs.Feed.{startFeed, progressOf, finishedText, finishedEnd, heldByte, flushed, joined, Turns, finish, turn}
+use Rattle.stream.specs.Feed.{startFeed, progressOf, finishedText, finishedEnd, heldBytes, heldByte, flushed, joined, Turns, finish, turn}
 use Rattle.stream.specs.Told.{told-text}
 use Rattle.stream.specs.declared.Feed.{Feed}
 
@@ -22,7 +22,7 @@ unfolding started
 start-progress out = refl
 
 -- and writes the last line as it does
-pub finish-writes : (f : Feed) (words out : List ℕ) → length (f .line) ≡ 201 → 273 ≤ length out
+pub finish-writes : (f : Feed) (words out : List ℕ) → length (f .line) ≡ heldBytes → 273 ≤ length out
     → take (finishedEnd f out) (finishedText f out) ≡ lastLine (progressOf f words out)
 unfolding lastLine
 finish-writes f words out l h = go (eqb (f .held) 0) refl

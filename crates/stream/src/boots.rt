@@ -2,13 +2,13 @@
 use crate::NewState;
 use boot::boot;
 use calls::Answer;
-use lines::Homes;
+use calls::BOOT_NUMBERS;
 use state::State;
 use text::put_answer;
 ghost use Prim.Native.Nat.{_+_, _≤_};
 ghost use lib.ListN.{length};
 ghost use Rattle.calls.specs.Step.{world, unchecked};
-ghost use Rattle.lines.specs.declared.Line.the-variants.{Boot as Line·Boot};
+ghost use Rattle.lines.specs.Reading.{bootBy};
 ghost use Rattle.stream.specs.Run.{reply};
 ghost use Rattle.stream.specs.Feed.{told};
 
@@ -17,19 +17,15 @@ pub fn boot_line(
     s: State,
     store: &mut [u64],
     d: u64,
-    homes: Homes,
+    plan: [u64; BOOT_NUMBERS],
     number: u64,
     out: &mut [u8],
     at: usize,
 ) -> NewState
     requires { ⌜ at + 273 ≤ length (now out) ⌝ }
-    ensures { λ r. ⌜ told number (now (out .entry)) at (now (out .exit)) (r .at) (world (r .state) (now (store .exit))) (reply unchecked (world s (now (store .entry))) (Line·Boot d homes)) ⌝ }
+    ensures { λ r. ⌜ told number (now (out .entry)) at (now (out .exit)) (r .at) (world (r .state) (now (store .exit))) (reply unchecked (world s (now (store .entry))) (bootBy d plan)) ⌝ }
 {
-    let o = boot(
-        store,
-        d,
-        [homes.first, homes.second, homes.third, homes.fourth],
-    );
+    let o = boot(store, d, plan);
     let answer = o.answer;
     let fields = o.fields;
     let end = put_answer(out, at, number, answer, fields);

@@ -10,6 +10,7 @@ use calls::ObjectCall;
 use calls::caller_of;
 use calls::replies::refusal_number;
 use lines::Line;
+use state::Accounts;
 use state::Frame;
 use state::Table;
 use text::answer_number;
@@ -50,7 +51,7 @@ pub fn kind_of(words: usize, reading: Line) -> Kind
 {
     match reading {
         Line::Unreadable => return Kind::Known(1),
-        Line::Boot { domain, homes } => return Kind::Boot(domain, homes),
+        Line::Boot { domain } => return Kind::Boot(domain),
         Line::Call { domain, call } => return call_kind(domain, call, words),
     }
 }
@@ -75,6 +76,7 @@ pub fn access_line(
 // A call on objects by domain d, answered. A place past the last changes nothing: the first estate, as it is, stands for it.
 pub fn object_line(
     t: Table,
+    x: Accounts,
     store: &mut [u64],
     d: usize,
     f: Frame,
@@ -84,9 +86,9 @@ pub fn object_line(
     at: usize,
 ) -> NewEstate
     requires { ⌜ at + 273 ≤ length (now out) ⌝ }
-    ensures { λ r. ⌜ objectTold t d f call number (now (store .entry)) (now (store .exit)) (now (out .entry)) at (now (out .exit)) r × (r .place < 4) ⌝ }
+    ensures { λ r. ⌜ objectTold t x d f call number (now (store .entry)) (now (store .exit)) (now (out .entry)) at (now (out .exit)) r × (r .place < 4) ⌝ }
 {
-    let r = object_call(t, store, d as u64, f, call);
+    let r = object_call(t, x, store, d as u64, f, call);
     let a = r.answer;
     let end = put_line(out, at, number, answer_number(a), &[answer_value(a)]);
     let place = r.place;

@@ -2,6 +2,7 @@
 use apply::domain_call;
 use boots::boot_line;
 use calls::Access;
+use calls::BOOT_NUMBERS;
 use calls::DomainCall;
 use calls::ObjectCall;
 use held::hold;
@@ -9,10 +10,13 @@ use held::read_one;
 use kinds::access_line;
 use kinds::kind_of;
 use kinds::object_line;
-use lines::Homes;
+use lines::LINE_BYTES;
 use lines::find;
+use state::Accounts;
+use state::Domain;
 use state::Estate;
 use state::State;
+use state::Table;
 use state::estates::empty_state;
 use text::put_answer;
 use text::put_line;
@@ -29,13 +33,16 @@ mod boots;
 mod held;
 mod kinds;
 
+// So many bytes of a line are held: one more than the longest has, enough to tell that it is too long.
+pub const HELD_BYTES: usize = LINE_BYTES + 1;
+
 // Where the program stands between two bytes of its input.
 pub struct Feed {
     pub state: State,
     // The number of the line that is read.
     pub number: u64,
     // The first bytes of that line, of which `held` stand.
-    pub line: [u8; 201],
+    pub line: [u8; HELD_BYTES],
     pub held: usize,
     // Where the text in the output buffer ends.
     pub at: usize,
@@ -50,7 +57,7 @@ enum Kind {
     Access(usize, Access),
     Object(usize, ObjectCall),
     Domain(usize, DomainCall),
-    Boot(u64, Homes),
+    Boot(u64),
 }
 
 // Behind a line: the part of the state that it may have changed, and the end of the text.
@@ -107,7 +114,7 @@ pub fn start() -> Feed
     Feed {
         state: empty_state(),
         number: 1,
-        line: [0; 201],
+        line: [0; HELD_BYTES],
         held: 0,
         at: 0,
         taken: 0,
@@ -143,6 +150,17 @@ fn at_most(n: usize, most: usize) -> usize
     n
 }
 
+// The state with these parts.
+fn state_of(table: Table, domains: [Domain; 4], accounts: Accounts) -> State
+    ensures { λ r. ⌜ r ≡ record { table = table; domains = domains; accounts = accounts } ⌝ }
+{
+    State {
+        table,
+        domains,
+        accounts,
+    }
+}
+
 // Takes bytes of a piece, answers the lines that end there into `out`, and stops where the longest answer has no room.
 pub fn feed_piece(f: Feed, store: &mut [u64], piece: &[u8], out: &mut [u8]) -> Feed
     ensures { λ r. ⌜ progressOf r (now (store .exit)) (now (out .exit)) ≡ foldl (onHeld unchecked) (progressOf f (now (store .entry)) (now (out .entry))) (take (r .taken) (now (piece .entry))) ⌝ }
@@ -151,11 +169,13 @@ pub fn feed_piece(f: Feed, store: &mut [u64], piece: &[u8], out: &mut [u8]) -> F
     let s = f.state;
     let mut table = s.table;
     let mut domains = s.domains;
+    let mut accounts = s.accounts;
     let mut number = f.number;
     let mut line = f.line;
-    let mut held = at_most(f.held, 201);
+    let mut held = at_most(f.held, HELD_BYTES);
     let mut at = at_most(f.at, out.len());
     let mut from = 0;
+    let mut plan = [0; BOOT_NUMBERS];
     while (from < piece.len()) & has_room(out.len(), at) {
         let end = find(piece, from, 10);
         if end == piece.len() {
@@ -163,7 +183,7 @@ pub fn feed_piece(f: Feed, store: &mut [u64], piece: &[u8], out: &mut [u8]) -> F
             from = end;
             continue;
         }
-        let reading = read_one(&mut line, held, &piece[from..end]);
+        let reading = read_one(&mut line, held, &piece[from..end], &mut plan);
         let n = number;
         number = next_number(n);
         held = 0;
@@ -176,14 +196,12 @@ pub fn feed_piece(f: Feed, store: &mut [u64], piece: &[u8], out: &mut [u8]) -> F
             }
             Kind::Access(who, c) => {
                 let m = domains[who];
-                let g = m.active;
-                at = access_line(table, store, g, c, n, out, at);
+                at = access_line(table, store, m.active, c, n, out, at);
                 continue;
             }
             Kind::Object(who, c) => {
                 let m = domains[who];
-                let g = m.active;
-                let r = object_line(table, store, who, g, c, n, out, at);
+                let r = object_line(table, accounts, store, who, m.active, c, n, out, at);
                 let k = r.place;
                 let e = r.estate;
                 table.estates[k] = e;
@@ -196,25 +214,23 @@ pub fn feed_piece(f: Feed, store: &mut [u64], piece: &[u8], out: &mut [u8]) -> F
                 let e = r.domain;
                 domains[who] = e;
                 let a = r.answer;
-                let fields = r.fields;
-                at = put_answer(out, at, n, a, fields);
+                at = put_answer(out, at, n, a, r.fields);
                 continue;
             }
-            Kind::Boot(who, homes) => {
-                let old = State { table, domains };
-                let r = boot_line(old, store, who, homes, n, out, at);
+            Kind::Boot(who) => {
+                let old = state_of(table, domains, accounts);
+                let r = boot_line(old, store, who, plan, n, out, at);
                 let new = r.state;
-                let t = new.table;
-                let ms = new.domains;
-                table = t;
-                domains = ms;
+                table = new.table;
+                domains = new.domains;
+                accounts = new.accounts;
                 at = r.at;
                 continue;
             }
         }
     }
     Feed {
-        state: State { table, domains },
+        state: state_of(table, domains, accounts),
         number,
         line,
         held,

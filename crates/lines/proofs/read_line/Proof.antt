@@ -2,8 +2,8 @@ use native.Mathlib.Omega.{arith}
 use mathlib.Core.Path.{sym, _∙_}
 use lib.ListN.{length, length-take}
 use borrow.Author.Tests.{lt-ltb}
-use Rattle.lines.specs.Grammar.{lineOf}
-use Rattle.lines.specs.Reading.{no-domain, no-letters, unknown-letters, no-arguments, all-read}
+use Rattle.lines.specs.Grammar.{lineBytes, lineOf}
+use Rattle.lines.specs.Commas.{no-domain, no-letters, unknown-letters, by-letters}
 use Rattle.lines.proofs.Told.{no-number}
 use borrow.Author.Needs.{needs}
 use Rattle.lines.proofs.read_line.Statement.{statement}
@@ -13,7 +13,7 @@ pub read-line-spec : {M : Type 1} → statement M
 unfolding lineOf
 read-line-spec =
     tie.close
-    (tie.spec (λ c. rw (lt-ltb 200 (length (c .before .before .args .s .now)) (omega arith))) (λ c κs. search needs) (λ c. simp length-take (omega arith)) (λ c κs. search needs) (λ c. search needs)
+    (tie.spec (λ c. rw (lt-ltb lineBytes (length (c .before .before .args .s .now)) (omega arith))) (λ c κs. search needs) (λ c. simp length-take (omega arith)) (λ c κs. search needs) (λ c. search needs)
     (λ c.
     no-domain _ (c .before .before .before .before .if1 .left) (c .before .before .before .find .ensures .0) (rw (← c .before .number .ensures) (no-number (c .before .number .result) (c .match .keys2))))
     (λ c.
@@ -21,7 +21,7 @@ read-line-spec =
     let field = domain .before .before in
     let comma = field .before .before in
     no-letters _ (comma .before .if1 .left) (comma .find .ensures .0) (sym (domain .domain .given .1) ∙ field .number .ensures) (c .if2 .taken))
-    (λ c. search needs) (λ c κs. search needs) (λ c. search needs) (λ c. search needs) (λ c. search needs) (λ c κs. search needs) (λ c. search needs) (λ c. search needs)
+    (λ c. search needs) (λ c κs. search needs) (λ c. search needs) (λ c. search needs) (λ c. search needs) (λ c κs. search needs) (λ c. search needs)
     (λ c.
     let letters = c .before .before in
     let next = letters .before .before in
@@ -29,26 +29,21 @@ read-line-spec =
     let field = domain .before .before in
     let comma = field .before .before in
     unknown-letters _ (comma .before .if1 .left) (comma .find .ensures .0) (sym (domain .domain .given .1) ∙ field .number .ensures) (omega arith) (next .find2 .ensures .0) (sym (c .enum-told .given .1) ∙ letters .letters-of .ensures))
-    (λ c. search needs) (λ c. search needs) (λ c. search needs) (λ c κs. search needs) (λ c. search needs) (λ c. search needs)
+    (λ c. search needs) (λ c. search needs) (λ c. search needs) (λ c. search needs) (λ c κs. search needs)
     (λ c.
-    let read = c .before .before in
-    let known = read .before .before .before in
-    let letters = known .before .before in
+    let told = c .before .before .before in
+    let letters = told .before .before in
     let next = letters .before .before in
     let domain = next .before .before .before in
     let field = domain .before .before in
     let comma = field .before .before in
-    no-arguments _ (comma .before .if1 .left) (comma .find .ensures .0) (sym (domain .domain .given .1) ∙ field .number .ensures) (omega arith) (next .find2 .ensures .0) (sym (known .mnemonic .given .1) ∙ letters .letters-of .ensures)
-    (sym (c .enum-told2 .given .1) ∙ read .read-arguments .ensures))
-    (λ c κs. search needs)
+    by-letters _ (comma .before .if1 .left) (comma .find .ensures .0) (sym (domain .domain .given .1) ∙ field .number .ensures) (omega arith) (next .find2 .ensures .0) (sym (told .enum-told2 .given .1) ∙ letters .letters-of .ensures) (c .read-boot .ensures))
+    (λ c. search needs) (λ c. search needs) (λ c. search needs) (λ c. search needs) (λ c κs. search needs)
     (λ c.
-    let read = c .before .before .before .before in
-    let known = read .before .before .before in
-    let letters = known .before .before in
+    let told = c .before .before .before in
+    let letters = told .before .before in
     let next = letters .before .before in
     let domain = next .before .before .before in
     let field = domain .before .before in
     let comma = field .before .before in
-    c .call-of .ensures
-    ∙ all-read _ (comma .before .if1 .left) (comma .find .ensures .0) (sym (domain .domain .given .1) ∙ field .number .ensures) (omega arith) (next .find2 .ensures .0) (sym (known .mnemonic .given .1) ∙ letters .letters-of .ensures)
-    (sym (c .before .before .n .given .1) ∙ read .read-arguments .ensures)))
+    by-letters _ (comma .before .if1 .left) (comma .find .ensures .0) (sym (domain .domain .given .1) ∙ field .number .ensures) (omega arith) (next .find2 .ensures .0) (sym (told .letters .given .1) ∙ letters .letters-of .ensures) (c .read-call .ensures _)))

@@ -5,4 +5,4 @@ use Rattle.lines.proofs.grammar.at_least.Tie as tie
 pub at-least-spec : {M : Type 1} → statement M
 at-least-spec =
     tie.close
-    (tie.spec (λ c. rw (le-leb _ _ (c .if1 .taken))) (λ c. rw (lt-leb _ _ (c .if1 .left))))
+    (tie.spec (λ c plan. rw (le-leb _ _ (c .if1 .taken))) (λ c plan. rw (lt-leb _ _ (c .if1 .left))))

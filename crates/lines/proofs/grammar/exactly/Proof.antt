@@ -5,4 +5,4 @@ use Rattle.lines.proofs.grammar.exactly.Tie as tie
 pub exactly-spec : {M : Type 1} → statement M
 exactly-spec =
     tie.close
-    (tie.spec (λ c. rw (eq-eqb _ _ (c .if1 .taken))) (λ c. rw (ne-eqb _ _ (c .if1 .left))))
+    (tie.spec (λ c plan. rw (eq-eqb _ _ (c .if1 .taken))) (λ c plan. rw (ne-eqb _ _ (c .if1 .left))))

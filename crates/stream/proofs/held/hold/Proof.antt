@@ -3,7 +3,7 @@ use mathlib.Core.Path.{_≡_}
 use lib.ListN.{length, take}
 use native.Mathlib.Omega.{arith}
 use Rattle.bounded.specs.Folds.{Folding, folding-none, folding-more, folding-all}
-use Rattle.stream.specs.Feed.{heldByte}
+use Rattle.stream.specs.Feed.{heldBytes, heldByte}
 use borrow.Author.Needs.{needs}
 use Rattle.stream.proofs.held.hold.Statement.{statement}
 use Rattle.stream.proofs.held.hold.Tie as tie
@@ -11,7 +11,7 @@ use Rattle.stream.proofs.held.hold.Tie as tie
 pub hold-spec : {M : Type 1} → statement M
 hold-spec =
     tie.close
-    (tie.spec (λ line₀ n s m₀ i₀ line m i. Folding heldByte (take n line₀) s i (take m line) × (m ≤ 201) × (length line ≡ 201))
+    (tie.spec (λ line₀ n s m₀ i₀ line m i. Folding heldByte (take n line₀) s i (take m line) × (m ≤ heldBytes) × (length line ≡ heldBytes))
     (λ line₀ n s m₀ i₀ line m i. length s - i) (λ c. (folding-none, omega arith, omega arith)) (λ c. search needs) (λ c κs. search needs)
     (λ c. search needs) (λ c. search needs)
     (λ c.

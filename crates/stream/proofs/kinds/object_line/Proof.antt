@@ -15,14 +15,14 @@ object-line-spec =
     let r = p .before .before .before .before .before .before .before .object-call in
     let e = rw (p .before .before .answer-value .ensures, p .before .before .before .answer-number .ensures) at (p .put-line .ensures) in
     let a = p .before .before .before .before .before .before .before .before .before .before .before .args in
-    let t = object-told (a .t1) (a .d) (a .f) (a .call) (r .result) _ _ (a .out .now) (a .at) (a .number) (r .ensures) (p .before .before .before .before .before .before .before .before .before .before .before .pre) (e .0) (e .1) in
+    let t = object-told (a .t1) (a .x) (a .d) (a .f) (a .call) (r .result) _ _ (a .out .now) (a .at) (a .number) (r .ensures) (p .before .before .before .before .before .before .before .before .before .before .before .pre) (e .0) (e .1) in
     let long : length (a .t1 .estates) ≡ 4 = simp length-map at (p .before .before .before .before .before .before .before .before .before .before .before .good .0 .1 .1 .0 .1 .0 .1) in
-    (object-past (a .t1) (a .d) (a .f) (a .call) (a .number) _ _ (a .out .now) (a .at) _ (record { place = r .result .place; estate = r .result .estate; at = p .put-line .result }) long (c .before .if1 .taken) t, omega arith))
+    (object-past (a .t1) (a .x) (a .d) (a .f) (a .call) (a .number) _ _ (a .out .now) (a .at) _ (record { place = r .result .place; estate = r .result .estate; at = p .put-line .result }) long (c .before .if1 .taken) t, omega arith))
     (λ c. search needs) (λ c. search needs)
     (λ c.
     let p = c .before .before .before .before in
     let r = p .before .before .before .before .before .before .before .object-call in
     let e = rw (p .before .before .answer-value .ensures, p .before .before .before .answer-number .ensures) at (p .put-line .ensures) in
     let a = p .before .before .before .before .before .before .before .before .before .before .before .args in
-    let t = object-told (a .t1) (a .d) (a .f) (a .call) (r .result) _ _ (a .out .now) (a .at) (a .number) (r .ensures) (p .before .before .before .before .before .before .before .before .before .before .before .pre) (e .0) (e .1) in
+    let t = object-told (a .t1) (a .x) (a .d) (a .f) (a .call) (r .result) _ _ (a .out .now) (a .at) (a .number) (r .ensures) (p .before .before .before .before .before .before .before .before .before .before .before .pre) (e .0) (e .1) in
     (t, omega (arith, c .before .if1 .left))))
