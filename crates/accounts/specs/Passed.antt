@@ -8,7 +8,7 @@ use lib.Seq.{take-all}
 use Rattle.calls.specs.Step.{step}
 use Rattle.lines.specs.Grammar.{lineOf}
 use Rattle.lines.specs.Until.{until}
-use Rattle.lines.specs.declared.Line.the-variants.{Unreadable}
+use Rattle.lines.specs.Reading.{unreadable}
 use Rattle.stream.specs.Run.{Progress, reply, onByteBy, extended, onByte, started}
 use Rattle.stream.specs.Feeding.{before-feed}
 use Rattle.figures.specs.Lines.{figureLines}
@@ -27,6 +27,6 @@ unfinished-passed input rest e =
     ap figuresOf (foldl-append onByte started input rest) ∙ ap figuresOf (rw all at (before-feed step extended rest r))
 
 -- the line feed of a line that is not readable
-pub unreadable-passed : (input : List ℕ) → lineOf (foldl onByte started input .line) ≡ Unreadable → figured (input ++ (10 ∷ [])) ≡ figured input
+pub unreadable-passed : (input : List ℕ) → lineOf (foldl onByte started input .line) ≡ unreadable → figured (input ++ (10 ∷ [])) ≡ figured input
 unfolding figured onByteBy reply
 unreadable-passed input e = ap figuresOf (foldl-append onByte started input (10 ∷ [])) ∙ rw e refl
