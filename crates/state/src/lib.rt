@@ -35,9 +35,9 @@ pub struct Registration {
 pub struct Object {
     pub base: u8,
     pub pages: u8,
+    pub account: u8,
     pub passwords: [Password; 4],
     pub registration: Registration,
-    pub account: u8,
 }
 
 // The objects of one domain's estate.

@@ -14,7 +14,7 @@ returns c =
     let b3 = b4 .before .before in
     let b2 = b3 .before .before in
     let b1 = b2 .before .before in
-    let g = b1 .before .before .before .good .1 .0 .1 .1 .1 .1 in
+    let g = b1 .before .before .before .good .1 .0 .1 .1 .1 .1 .1 in
     rw (eq-eqb _ _ (simp length-map at (g .0 .1 .0 .1)), eq-eqb _ _ (simp length-map at (g .1 .0 .1 .1 .1 .1 .1 .0 .1 .0 .1)))
     (rw (c .place-ok .ensures, c .before .registration-ok .ensures, w .passwords-distinct .ensures)
     (rw (b4 .password-ok4 .ensures, b3 .password-ok3 .ensures, b2 .password-ok2 .ensures, b1 .password-ok .ensures)))

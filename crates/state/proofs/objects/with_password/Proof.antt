@@ -7,5 +7,5 @@ pub with-password-spec : {M : Type 1} → statement M
 with-password-spec =
     tie.close
     (tie.spec
-    (λ c. rw (past _ _ (c .before .good .0 .1 .1 .1 .1 .0 .1 .0 .1) (c .if1 .taken)))
+    (λ c. rw (past _ _ (c .before .good .0 .1 .1 .1 .1 .1 .0 .1 .0 .1) (c .if1 .taken)))
     (λ c. search needs) (λ c. search needs) (λ c. search needs))
