@@ -12,6 +12,7 @@ use Rattle.lines.specs.declared.Field.{Field}
 use Rattle.lines.specs.declared.Field.the-variants.{Empty, Number, Bad}
 use Rattle.lines.specs.declared.Letters.{Letters}
 use Rattle.lines.specs.declared.Letters.the-variants.{Unknown, Known}
+use Rattle.lines.specs.declared.Named.the-variants.{Call}
 use Rattle.lines.specs.declared.Mnemonic.{Mnemonic}
 use Rattle.lines.specs.declared.Eight.{Eight}
 use Rattle.lines.specs.declared.Arguments.the-variants as arguments
@@ -34,19 +35,19 @@ letters-bad d none = refl
 letters-bad d (some vs) = refl
 
 -- a call, by its arguments
-pub given-bad : (d : ℕ) (m : Mnemonic) (t : List ℕ) → arguments.Unreadable ≡ argumentsOf t → unreadable ≡ withArguments d (Known m) (numbersOf (behind t))
+pub given-bad : (d : ℕ) (m : Mnemonic) (t : List ℕ) → arguments.Unreadable ≡ argumentsOf t → unreadable ≡ withArguments d (Known (Call m)) (numbersOf (behind t))
 unfolding argumentsOf
 given-bad d m t h = go (numbersOf (behind t)) h
   where
-    go : (o : Option (List ℕ)) → arguments.Unreadable ≡ given o → unreadable ≡ withArguments d (Known m) o
+    go : (o : Option (List ℕ)) → arguments.Unreadable ≡ given o → unreadable ≡ withArguments d (Known (Call m)) o
     go none k = refl
     go (some vs) k = cc
 
-pub given-numbers : (d : ℕ) (m : Mnemonic) (t : List ℕ) {n : ℕ} {x : Eight} → arguments.Numbers n x ≡ argumentsOf t → callOf d m n x ≡ withArguments d (Known m) (numbersOf (behind t))
+pub given-numbers : (d : ℕ) (m : Mnemonic) (t : List ℕ) {n : ℕ} {x : Eight} → arguments.Numbers n x ≡ argumentsOf t → callOf d m n x ≡ withArguments d (Known (Call m)) (numbersOf (behind t))
 unfolding argumentsOf
 given-numbers d m t {n} {x} h = go (numbersOf (behind t)) h
   where
-    go : (o : Option (List ℕ)) → arguments.Numbers n x ≡ given o → callOf d m n x ≡ withArguments d (Known m) o
+    go : (o : Option (List ℕ)) → arguments.Numbers n x ≡ given o → callOf d m n x ≡ withArguments d (Known (Call m)) o
     go none k = cc
     go (some vs) k = cc
 

@@ -11,7 +11,8 @@ use lib.Seq.{take-all, take-suc-set, length-take-le}
 use borrow.Author.Tests.{eq-eqb, ne-eqb}
 use Rattle.calls.specs.Boot.{bootNumbers}
 use Rattle.lines.specs.declared.Field.the-variants.{Number}
-use Rattle.lines.specs.declared.Letters.the-variants.{Boot}
+use Rattle.lines.specs.declared.Letters.the-variants.{Known}
+use Rattle.lines.specs.declared.Named.the-variants.{Boot}
 use Rattle.lines.specs.Number.{fieldOf}
 use Rattle.lines.specs.Cut.{commaOf, behind}
 use Rattle.lines.specs.Arguments.{numbersOf}
@@ -26,7 +27,7 @@ pub record Filling (t : List ℕ) (i n : ℕ) (plan : List ℕ) : Type 0 where
   pub few : n ≤ length plan
 
 -- more than a boot takes, whatever follows
-too-many : (d : ℕ) (vs : List ℕ) (o : Option (List ℕ)) → bootNumbers < length vs → unreadable ≡ withArguments d Boot (joined vs o)
+too-many : (d : ℕ) (vs : List ℕ) (o : Option (List ℕ)) → bootNumbers < length vs → unreadable ≡ withArguments d (Known Boot) (joined vs o)
 too-many d vs none h = refl
 too-many d vs (some ws) h =
     let n : length (vs ++ ws) ≡ bootNumbers → ⊥ = (λ e. omega (arith, e, length-append vs ws)) in
@@ -40,22 +41,22 @@ module _ {t : List ℕ} where
     count : length (take n plan) ≡ n
     count = length-take-le n plan (k .few)
 
-    pub filling-all : (d : ℕ) → length t ≤ i → bootNumbers ≤ n → bootBy d plan ≡ withArguments d Boot (numbersOf (behind t))
+    pub filling-all : (d : ℕ) → length t ≤ i → bootNumbers ≤ n → bootBy d plan ≡ withArguments d (Known Boot) (numbersOf (behind t))
     filling-all d h l =
         let w : take n plan ≡ plan = take-all n plan (omega (arith, k .long)) in
         rw (taking-all (k .taken) h, w, eq-eqb _ _ (k .long))
 
-    pub filling-few : (d : ℕ) → length t ≤ i → n < bootNumbers → unreadable ≡ withArguments d Boot (numbersOf (behind t))
+    pub filling-few : (d : ℕ) → length t ≤ i → n < bootNumbers → unreadable ≡ withArguments d (Known Boot) (numbersOf (behind t))
     filling-few d h l =
         let w : length (take n plan) ≡ bootNumbers → ⊥ = (λ e. omega (arith, e, count)) in
         rw (taking-all (k .taken) h, ne-eqb _ _ w)
 
     module _ {e : ℕ} (h : i < length t) (end : e ≡ i + 1 + commaOf (drop (i + 1) t)) where
-      pub filling-bad : (d : ℕ) → isNumber (fieldOf (take (e - (i + 1)) (drop (i + 1) t))) ≡ false → unreadable ≡ withArguments d Boot (numbersOf (behind t))
+      pub filling-bad : (d : ℕ) → isNumber (fieldOf (take (e - (i + 1)) (drop (i + 1) t))) ≡ false → unreadable ≡ withArguments d (Known Boot) (numbersOf (behind t))
       filling-bad d b = rw (taking-bad (k .taken) h end b)
 
       module _ {v : ℕ} (l : e ≤ length t) (m : Number v ≡ fieldOf (take (e - (i + 1)) (drop (i + 1) t))) where
-        pub filling-over : (d : ℕ) → n ≡ bootNumbers → unreadable ≡ withArguments d Boot (numbersOf (behind t))
+        pub filling-over : (d : ℕ) → n ≡ bootNumbers → unreadable ≡ withArguments d (Known Boot) (numbersOf (behind t))
         filling-over d q =
             let p = taking-more (k .taken) h end l m in
             let z : bootNumbers < length (take n plan ++ (v ∷ [])) = omega (arith, count, length-append (take n plan) (v ∷ [])) in

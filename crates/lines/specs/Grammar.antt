@@ -15,7 +15,8 @@ use Rattle.calls.specs.declared.DomainCall.the-variants.{Insert, Remove, Get, L
 use Rattle.lines.specs.declared.Field.{Field}
 use Rattle.lines.specs.declared.Field.the-variants.{Empty, Number, Bad}
 use Rattle.lines.specs.declared.Letters.{Letters}
-use Rattle.lines.specs.declared.Letters.the-variants.{Unknown, Boot, Known}
+use Rattle.lines.specs.declared.Letters.the-variants.{Unknown, Known}
+use Rattle.lines.specs.declared.Named.the-variants as named
 use Rattle.lines.specs.declared.Mnemonic.{Mnemonic}
 use Rattle.lines.specs.declared.Mnemonic.the-variants.{Rd, Wr, Ex, Lk, Cr, Dl, Ap, Dp, Rg, In, Rm, Gt, Lo, Ca, Rt}
 use Rattle.lines.specs.declared.Eight.{Eight}
@@ -69,8 +70,8 @@ callOf d Rt n x = exactly d n 0 (OnDomain PdxReturn)
 abbrev pub withArguments : ℕ → Letters → Option (List ℕ) → Reading
 withArguments d l none = unreadable
 withArguments d Unknown (some vs) = unreadable
-withArguments d Boot (some vs) = bootOf d vs
-withArguments d (Known m) (some vs) = callOf d m (length vs) (eightOf vs)
+withArguments d (Known named.Boot) (some vs) = bootOf d vs
+withArguments d (Known (named.Call m)) (some vs) = callOf d m (length vs) (eightOf vs)
 
 abbrev pub lineWith : Field → List (List ℕ) → Reading
 lineWith (Number d) (l ∷ fs) = withArguments d (lettersOf l) (numbersOf fs)

@@ -2,6 +2,7 @@
 use crate::Field;
 use crate::Letters;
 use crate::Mnemonic;
+use crate::Named;
 ghost use mathlib.Core.Path.{_≡_};
 ghost use Prim.Native.Nat.{_+_, _-_, _<_, _≤_};
 ghost use lib.ListN.{length, drop, getD};
@@ -106,22 +107,22 @@ fn mnemonic_of(letters: u64) -> Letters
     ensures { λ r. ⌜ r ≡ mnemonicOf letters ⌝ }
 {
     match letters {
-        0x4254 => return Letters::Boot,
-        0x5244 => return Letters::Known(Mnemonic::Rd),
-        0x5752 => return Letters::Known(Mnemonic::Wr),
-        0x4558 => return Letters::Known(Mnemonic::Ex),
-        0x4c4b => return Letters::Known(Mnemonic::Lk),
-        0x4352 => return Letters::Known(Mnemonic::Cr),
-        0x444c => return Letters::Known(Mnemonic::Dl),
-        0x4150 => return Letters::Known(Mnemonic::Ap),
-        0x4450 => return Letters::Known(Mnemonic::Dp),
-        0x5247 => return Letters::Known(Mnemonic::Rg),
-        0x494e => return Letters::Known(Mnemonic::In),
-        0x524d => return Letters::Known(Mnemonic::Rm),
-        0x4754 => return Letters::Known(Mnemonic::Gt),
-        0x4c4f => return Letters::Known(Mnemonic::Lo),
-        0x4341 => return Letters::Known(Mnemonic::Ca),
-        0x5254 => return Letters::Known(Mnemonic::Rt),
+        0x4254 => return Letters::Known(Named::Boot),
+        0x5244 => return Letters::Known(Named::Call(Mnemonic::Rd)),
+        0x5752 => return Letters::Known(Named::Call(Mnemonic::Wr)),
+        0x4558 => return Letters::Known(Named::Call(Mnemonic::Ex)),
+        0x4c4b => return Letters::Known(Named::Call(Mnemonic::Lk)),
+        0x4352 => return Letters::Known(Named::Call(Mnemonic::Cr)),
+        0x444c => return Letters::Known(Named::Call(Mnemonic::Dl)),
+        0x4150 => return Letters::Known(Named::Call(Mnemonic::Ap)),
+        0x4450 => return Letters::Known(Named::Call(Mnemonic::Dp)),
+        0x5247 => return Letters::Known(Named::Call(Mnemonic::Rg)),
+        0x494e => return Letters::Known(Named::Call(Mnemonic::In)),
+        0x524d => return Letters::Known(Named::Call(Mnemonic::Rm)),
+        0x4754 => return Letters::Known(Named::Call(Mnemonic::Gt)),
+        0x4c4f => return Letters::Known(Named::Call(Mnemonic::Lo)),
+        0x4341 => return Letters::Known(Named::Call(Mnemonic::Ca)),
+        0x5254 => return Letters::Known(Named::Call(Mnemonic::Rt)),
         _ => return Letters::Unknown,
     }
 }

@@ -6,7 +6,8 @@ use grammar::call_of;
 ghost use mathlib.Core.Path.{_≡_};
 ghost use lib.ListN.{length};
 ghost use Rattle.calls.specs.Boot.{bootNumbers};
-ghost use Rattle.lines.specs.declared.Letters.the-variants.{Boot, Known};
+ghost use Rattle.lines.specs.declared.Letters.the-variants.{Known};
+ghost use Rattle.lines.specs.declared.Named.the-variants.{Boot, Call as Named·Call};
 ghost use Rattle.lines.specs.Arguments.{numbersOf, eightOf};
 ghost use Rattle.lines.specs.Cut.{behind};
 ghost use Rattle.lines.specs.Reading.{reads, Whatever};
@@ -32,8 +33,13 @@ pub enum Field {
 // What the field of the call letters reads as.
 enum Letters {
     Unknown,
+    Known(Named),
+}
+
+// What known letters name.
+enum Named {
     Boot,
-    Known(Mnemonic),
+    Call(Mnemonic),
 }
 
 // The letters of each call.
@@ -106,7 +112,7 @@ fn read_arguments(t: &[u8]) -> Arguments
 
 // A call of these letters, with the arguments in the text t.
 fn read_call(domain: u64, mnemonic: Mnemonic, t: &[u8]) -> Line
-    ensures { λ r. ⌜ Whatever r (withArguments domain (Known mnemonic) (numbersOf (behind (now (t .entry))))) ⌝ }
+    ensures { λ r. ⌜ Whatever r (withArguments domain (Known (Named·Call mnemonic)) (numbersOf (behind (now (t .entry))))) ⌝ }
 {
     let Arguments::Numbers(n, x) = read_arguments(t) else {
         return Line::Unreadable;
@@ -117,7 +123,7 @@ fn read_call(domain: u64, mnemonic: Mnemonic, t: &[u8]) -> Line
 // A boot, with its numbers in the text t: all that it takes and no more are put into the plan.
 fn read_boot(domain: u64, t: &[u8], plan: &mut [u64]) -> Line
     requires { ⌜ length (now plan) ≡ bootNumbers ⌝ }
-    ensures { λ r. ⌜ reads r (now (plan .exit)) ≡ withArguments domain Boot (numbersOf (behind (now (t .entry)))) ⌝ }
+    ensures { λ r. ⌜ reads r (now (plan .exit)) ≡ withArguments domain (Known Boot) (numbersOf (behind (now (t .entry)))) ⌝ }
 {
     let mut n = 0;
     let mut at = 0;
@@ -155,10 +161,11 @@ pub fn read_line(s: &[u8], plan: &mut [u64; BOOT_NUMBERS]) -> Line
     }
     let from = d + 1;
     let e = find(s, from, 44);
-    let letters = letters_of(&s[from..e]);
-    match letters {
-        Letters::Unknown => return Line::Unreadable,
-        Letters::Boot => return read_boot(domain, &s[e..], plan),
-        Letters::Known(mnemonic) => return read_call(domain, mnemonic, &s[e..]),
+    let Letters::Known(named) = letters_of(&s[from..e]) else {
+        return Line::Unreadable;
+    };
+    match named {
+        Named::Boot => return read_boot(domain, &s[e..], plan),
+        Named::Call(mnemonic) => return read_call(domain, mnemonic, &s[e..]),
     }
 }

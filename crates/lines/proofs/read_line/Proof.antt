@@ -1,7 +1,8 @@
 use native.Mathlib.Omega.{arith}
-use mathlib.Core.Path.{sym, _∙_}
+use mathlib.Core.Path.{ap, sym, _∙_}
 use lib.ListN.{length, length-take}
 use borrow.Author.Tests.{lt-ltb}
+use Rattle.lines.specs.declared.Letters.the-variants.{Known}
 use Rattle.lines.specs.Grammar.{lineBytes, lineOf}
 use Rattle.lines.specs.Commas.{no-domain, no-letters, unknown-letters, by-letters}
 use Rattle.lines.proofs.Told.{no-number}
@@ -21,7 +22,7 @@ read-line-spec =
     let field = domain .before .before in
     let comma = field .before .before in
     no-letters _ (comma .before .if1 .left) (comma .find .ensures .0) (sym (domain .domain .given .1) ∙ field .number .ensures) (c .if2 .taken))
-    (λ c. search needs) (λ c κs. search needs) (λ c. search needs) (λ c. search needs) (λ c. search needs) (λ c κs. search needs) (λ c. search needs)
+    (λ c. search needs) (λ c κs. search needs) (λ c. search needs) (λ c. search needs) (λ c. search needs) (λ c κs. search needs) (λ c. search needs) (λ c. search needs)
     (λ c.
     let letters = c .before .before in
     let next = letters .before .before in
@@ -32,18 +33,20 @@ read-line-spec =
     (λ c. search needs) (λ c. search needs) (λ c. search needs) (λ c. search needs) (λ c κs. search needs)
     (λ c.
     let told = c .before .before .before in
-    let letters = told .before .before in
+    let known = told .before .before .before in
+    let letters = known .before .before in
     let next = letters .before .before in
     let domain = next .before .before .before in
     let field = domain .before .before in
     let comma = field .before .before in
-    by-letters _ (comma .before .if1 .left) (comma .find .ensures .0) (sym (domain .domain .given .1) ∙ field .number .ensures) (omega arith) (next .find2 .ensures .0) (sym (told .enum-told2 .given .1) ∙ letters .letters-of .ensures) (c .read-boot .ensures))
+    by-letters _ (comma .before .if1 .left) (comma .find .ensures .0) (sym (domain .domain .given .1) ∙ field .number .ensures) (omega arith) (next .find2 .ensures .0) (ap Known (sym (told .enum-told2 .given .1)) ∙ sym (known .named .given .1) ∙ letters .letters-of .ensures) (c .read-boot .ensures))
     (λ c. search needs) (λ c. search needs) (λ c. search needs) (λ c. search needs) (λ c κs. search needs)
     (λ c.
     let told = c .before .before .before in
-    let letters = told .before .before in
+    let known = told .before .before .before in
+    let letters = known .before .before in
     let next = letters .before .before in
     let domain = next .before .before .before in
     let field = domain .before .before in
     let comma = field .before .before in
-    by-letters _ (comma .before .if1 .left) (comma .find .ensures .0) (sym (domain .domain .given .1) ∙ field .number .ensures) (omega arith) (next .find2 .ensures .0) (sym (told .letters .given .1) ∙ letters .letters-of .ensures) (c .read-call .ensures _)))
+    by-letters _ (comma .before .if1 .left) (comma .find .ensures .0) (sym (domain .domain .given .1) ∙ field .number .ensures) (omega arith) (next .find2 .ensures .0) (ap Known (sym (told .named2 .given .1)) ∙ sym (known .named .given .1) ∙ letters .letters-of .ensures) (c .read-call .ensures _)))
