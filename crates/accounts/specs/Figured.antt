@@ -7,7 +7,8 @@ use Rattle.calls.specs.View.{World}
 use Rattle.stream.specs.Run.{onByte, started}
 use Rattle.stream.specs.Feed.{startFeed, joined, Reached}
 use Rattle.stream.specs.declared.Feed.{Feed}
-use Rattle.turns.specs.Led.{Led, reached-world, led-world}
+use Rattle.stream.specs.Reached.{reached-world}
+use Rattle.turns.specs.Led.{Led, led-world}
 use Rattle.figures.specs.Lines.{figureLines}
 
 -- WHAT THE PROGRAM WRITES: the figures of the object table that the call program has behind the input

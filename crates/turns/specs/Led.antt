@@ -1,12 +1,12 @@
 -- Pieces of an input, one after the other, and where they lead.
 use Prim.Native.Nat.{ℕ}
-use mathlib.Core.Path.{_≡_, refl, ap}
+use mathlib.Core.Path.{_≡_, refl}
 use mathlib.Core.List.{List, [], _∷_, foldl}
 use lib.ListN.{replicate}
 use Rattle.calls.specs.Step.{world}
-use Rattle.stream.specs.Run.{Progress, onByte, started}
-use Rattle.stream.specs.Feed.{startFeed, joined, Leads, Reached}
-use Rattle.stream.specs.Reached.{leads-on, reached-run}
+use Rattle.stream.specs.Run.{onByte, started}
+use Rattle.stream.specs.Feed.{startFeed, joined, Leads}
+use Rattle.stream.specs.Reached.{leads-on, reached-world}
 use Rattle.stream.specs.declared.Feed.{Feed}
 
 -- pieces lead from one feed and store to another, each from where the one before it leads
@@ -21,8 +21,5 @@ led-joined _ _ _ _ _ (none f words) = refl
 led-joined _ _ _ _ _ (piece f words p f′ words′ ps f″ words″ a l) = leads-on f words p f′ words′ (joined ps) f″ words″ a (led-joined f′ words′ ps f″ words″ l)
 
 -- from a store of zeros, state and store are those of document 01's run behind the input
-pub reached-world : (f : Feed) (words : List ℕ) (r : Reached (replicate 8192 0) f words) → world (f .state) words ≡ foldl onByte started (r .input) .world
-reached-world f words r = ap (λ (z : Progress). z .world) (reached-run f words r)
-
 pub led-world : (ps : List (List ℕ)) (f : Feed) (words : List ℕ) → Led startFeed (replicate 8192 0) ps f words → world (f .state) words ≡ foldl onByte started (joined ps) .world
 led-world ps f words l = reached-world f words (record { input = joined ps; led = led-joined startFeed (replicate 8192 0) ps f words l })
