@@ -7,7 +7,7 @@ use std::time::Duration;
 
 /// Parts of the program: their names, and how their symbols begin.
 const PARTS: [(&str, &[&str]); 7] = [
-    ("reading", &["monitor::", "stream::", "lines::"]),
+    ("reading", &["monitor::", "turns::", "stream::", "lines::"]),
     ("soundness", &["soundness::"]),
     ("judging", &["clists::", "judge::", "rights::", "state::"]),
     (
