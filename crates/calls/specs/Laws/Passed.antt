@@ -31,7 +31,7 @@ pub record Unchanged (w : World) (r : Result) : Type 0 where
 pub refused-changes-nothing : (w : World) (d : ℕ) (c : Call) (why : Refusal) → step w d c .outcome .answer ≡ Refused why → Unchanged w (step w d c)
 refused-changes-nothing w d c why h = rw (refused-is w d c why h) (record { state = refl; words = refl; value = refl; fields = refl })
 
--- every check from 4 to 12 holds, and check 2
+-- every check from 4 on holds, and check 2
 pub record Passes (w : World) (d : ℕ) (c : Call) : Type 0 where
   pub long : length (w .words) ≡ 8192
   pub domain : d < 4
