@@ -14,6 +14,7 @@ const PARTS: [(&str, &[&str]); 7] = [
         "the calls",
         &[
             "access_calls::",
+            "create_call::",
             "object_calls::",
             "domain_calls::",
             "register_call::",

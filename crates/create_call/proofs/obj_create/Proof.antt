@@ -7,9 +7,9 @@ use Rattle.calls.specs.Rules.{rule, unlocked, late, changes}
 use Rattle.calls.specs.Laws.Parts.{alters-range, alters-late, alters-done}
 use Rattle.calls.specs.Laws.Told.{holds, fails}
 use Rattle.calls.specs.declared.Refusal.the-variants.{NoRun, NotPermitted, LimitPassed, Full}
-use Rattle.object_calls.proofs.Ranges.{create-range, create-run}
-use Rattle.object_calls.proofs.obj_create.Statement.{statement}
-use Rattle.object_calls.proofs.obj_create.Tie as tie
+use Rattle.create_call.proofs.Ranges.{create-range, create-run}
+use Rattle.create_call.proofs.obj_create.Statement.{statement}
+use Rattle.create_call.proofs.obj_create.Tie as tie
 
 pub obj-create-spec : {M : Type 1} → statement M
 unfolding rule unlocked late changes

@@ -1,8 +1,8 @@
 use borrow.Author.Needs.{needs}
 use Rattle.bounded.specs.Every.{below}
 use Rattle.calls.specs.Arguments.{runFree}
-use Rattle.object_calls.proofs.run_free.Statement.{statement}
-use Rattle.object_calls.proofs.run_free.Tie as tie
+use Rattle.create_call.proofs.run_free.Statement.{statement}
+use Rattle.create_call.proofs.run_free.Tie as tie
 
 pub run-free-spec : {M : Type 1} → statement M
 unfolding runFree below

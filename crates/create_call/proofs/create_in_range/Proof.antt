@@ -1,7 +1,7 @@
 use borrow.Author.Needs.{needs}
 use Rattle.calls.specs.Rules.{inRange}
-use Rattle.object_calls.proofs.create_in_range.Statement.{statement}
-use Rattle.object_calls.proofs.create_in_range.Tie as tie
+use Rattle.create_call.proofs.create_in_range.Statement.{statement}
+use Rattle.create_call.proofs.create_in_range.Tie as tie
 
 pub create-in-range-spec : {M : Type 1} → statement M
 unfolding inRange
