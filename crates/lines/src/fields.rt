@@ -137,11 +137,29 @@ pub fn letters_of(s: &[u8]) -> Letters
     mnemonic_of(pair(s[0], s[1]))
 }
 
-// Where the first byte b from `from` on stands, or the end.
+// Where the first byte b from `from` on stands, or the end. Four bytes are looked at in each turn, then the last few one by one.
 pub fn find(s: &[u8], from: usize, b: u8) -> usize
     ensures { λ r. ⌜ (r ≡ from + until b (drop from (now (s .entry)))) × (from ≤ r) × (r ≤ from + (length (now (s .entry)) - from)) ⌝ }
 {
+    if s.len() <= from {
+        return from;
+    }
     let mut i = from;
+    while 4 <= s.len() - i {
+        if s[i] == b {
+            return i;
+        }
+        if s[i + 1] == b {
+            return i + 1;
+        }
+        if s[i + 2] == b {
+            return i + 2;
+        }
+        if s[i + 3] == b {
+            return i + 3;
+        }
+        i += 4;
+    }
     while i < s.len() {
         if s[i] == b {
             return i;
