@@ -1,7 +1,4 @@
 // BT: the state and the store that a boot leaves.
-mod plan;
-
-use crate::plan::plan_ok;
 use calls::Answer;
 use calls::BOOT_NUMBERS;
 use calls::Caller;
@@ -10,6 +7,7 @@ use calls::Refusal;
 use calls::caller_of;
 use calls::replies::answered;
 use calls::words::zero_words;
+use plan::plan_ok;
 use state::Accounts;
 use state::Capability;
 use state::Domain;

@@ -1,6 +1,6 @@
 // The figures of the accounts as text.
+use pages::pages_of;
 use state::Table;
-use state::pages::pages_of;
 use text::put_line;
 ghost use mathlib.Core.Path.{_≡_};
 ghost use Prim.Native.Nat.{_+_, _≤_};

@@ -8,7 +8,6 @@ pub mod estates;
 pub mod extents;
 pub mod frames;
 pub mod objects;
-pub mod pages;
 pub mod tables;
 
 // A capability as a slot or a registration holds it: the page it names and the password it shows.

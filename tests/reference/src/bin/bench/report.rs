@@ -22,6 +22,8 @@ const PARTS: [(&str, &[&str]); 7] = [
             "apply::",
             "calls::",
             "boot::",
+            "plan::",
+            "pages::",
         ],
     ),
     ("copying", &["memmove", "memcpy", "__memmove", "__memcpy"]),
