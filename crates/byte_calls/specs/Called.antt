@@ -4,8 +4,8 @@ use mathlib.Core.Bool.{Bool, true, false, cond, _&&_}
 use mathlib.Core.List.{List}
 use lib.Dec.{eqb}
 use lib.ListN.{length}
-use Rattle.image.specs.Sizes.{stateSize}
-use Rattle.image.specs.Layout.{state}
+use Rattle.layout.specs.Sizes.{stateSize}
+use Rattle.layout.specs.Layout.{state}
 use Rattle.image.specs.Image.{reading}
 use Rattle.calls.specs.Answers.{refusalNumber, valuesOf}
 use Rattle.calls.specs.Step.{Result, world, step}

@@ -1,6 +1,6 @@
 // The store's bytes as words, and back.
-use image::numbers::put_word;
-use image::numbers::word_at;
+use layout::numbers::put_word;
+use layout::numbers::word_at;
 ghost use mathlib.Core.Path.{_≡_};
 ghost use Prim.Native.Nat.{_≤_};
 ghost use lib.ListN.{length};

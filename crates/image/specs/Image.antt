@@ -16,8 +16,8 @@ use Rattle.state.specs.Places.{emptyState}
 use Rattle.soundness.specs.Sound.{sound}
 use Rattle.state.specs.declared.State.{State}
 use Rattle.image.specs.declared.Reading.{Reading}
-use Rattle.image.specs.Sizes.{stateSize}
-use Rattle.image.specs.Layout.{capability, password, entries, registration, passwords, object, objects, estate, estates, table, fourBytes, accounts, state}
+use Rattle.layout.specs.Sizes.{stateSize}
+use Rattle.layout.specs.Layout.{capability, password, entries, registration, passwords, object, objects, estate, estates, table, fourBytes, accounts, state}
 
 -- an image reads if it has the length, its bytes for yes or no are 1 or 0, and its state is sound
 unfoldable pub reading : List ℕ → Reading

@@ -1,13 +1,13 @@
 // The accounts in their image.
-use crate::numbers::put_byte;
-use crate::sizes::ACCOUNTS_SETS;
+use layout::numbers::put_byte;
+use layout::sizes::ACCOUNTS_SETS;
 use state::Accounts;
 ghost use mathlib.Core.Path.{_≡_};
 ghost use Prim.Native.Nat.{_+_, _≤_};
 ghost use lib.ListN.{length, drop};
 ghost use Rattle.codec.specs.Laid.{lay};
-ghost use Rattle.image.specs.Sizes.{accountsSize};
-ghost use Rattle.image.specs.Layout.{fourBytes, accounts};
+ghost use Rattle.layout.specs.Sizes.{accountsSize};
+ghost use Rattle.layout.specs.Layout.{fourBytes, accounts};
 
 // Four bytes.
 pub fn four_bytes_at(s: &[u8], at: usize) -> [u8; 4]

@@ -1,14 +1,14 @@
 // The state as a byte image of one fixed length, and back.
 use crate::accounts::accounts_at;
 use crate::accounts::put_accounts;
-use crate::frames::domains_at;
-use crate::frames::domains_ok;
-use crate::frames::put_domains;
 use crate::objects::put_table;
 use crate::objects::table_at;
-use crate::sizes::STATE;
-use crate::sizes::STATE_ACCOUNTS;
-use crate::sizes::STATE_DOMAINS;
+use layout::frames::domains_at;
+use layout::frames::domains_ok;
+use layout::frames::put_domains;
+use layout::sizes::STATE;
+use layout::sizes::STATE_ACCOUNTS;
+use layout::sizes::STATE_DOMAINS;
 use soundness::sound;
 use state::State;
 use state::estates::empty_state;
@@ -17,15 +17,12 @@ ghost use Prim.Native.Nat.{_+_, _≤_};
 ghost use lib.ListN.{length, drop};
 ghost use Rattle.codec.specs.Laid.{lay};
 ghost use Rattle.soundness.specs.Sound.{sound};
-ghost use Rattle.image.specs.Sizes.{stateSize};
-ghost use Rattle.image.specs.Layout.{state};
+ghost use Rattle.layout.specs.Sizes.{stateSize};
+ghost use Rattle.layout.specs.Layout.{state};
 ghost use Rattle.image.specs.Image.{reading, written};
 
 mod accounts;
-mod frames;
-pub mod numbers;
 mod objects;
-pub mod sizes;
 
 // What an image reads as: whether it is readable, and then its state.
 pub struct Reading {

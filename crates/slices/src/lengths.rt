@@ -1,10 +1,10 @@
 // The lengths of the slices of a C call.
 use crate::values::VALUES;
-use image::sizes::STATE;
+use layout::sizes::STATE;
 ghost use mathlib.Core.Path.{_≡_};
 ghost use lib.Dec.{eqb};
 ghost use lib.ListN.{length};
-ghost use Rattle.image.specs.Sizes.{stateSize};
+ghost use Rattle.layout.specs.Sizes.{stateSize};
 ghost use Rattle.slices.specs.Slices.{wrongLength};
 
 // How many bytes the store takes.

@@ -1,7 +1,7 @@
 // The values behind an answer, as bytes.
 use calls::Fields;
 use calls::replies::no_fields;
-use image::numbers::put_word;
+use layout::numbers::put_word;
 ghost use mathlib.Core.Path.{_≡_};
 ghost use Prim.Native.Nat.{_<_};
 ghost use lib.ListN.{length, getD};

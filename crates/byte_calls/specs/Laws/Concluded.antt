@@ -11,8 +11,8 @@ use borrow.Author.Tests.{eq-eqb, eqb-true}
 use Rattle.codec.specs.Codec.{Bytes}
 use Rattle.codec.specs.Number.{number}
 use Rattle.codec.specs.Array.{gets-length}
-use Rattle.image.specs.Sizes.{stateSize}
-use Rattle.image.specs.Layout.{state}
+use Rattle.layout.specs.Sizes.{stateSize}
+use Rattle.layout.specs.Layout.{state}
 use Rattle.image.specs.Image.{reading, written, readable-length, readable-sound, writes-back}
 use Rattle.calls.specs.Answers.{refusalNumber, valuesFrom}
 use Rattle.calls.specs.Boot.{boot}

@@ -1,6 +1,6 @@
 use borrow.Author.Needs.{needs}
 use lib.Seq.{drop-drop}
-use Rattle.image.specs.Layout.{accounts}
+use Rattle.layout.specs.Layout.{accounts}
 use Rattle.image.proofs.accounts.accounts_at.Statement.{statement}
 use Rattle.image.proofs.accounts.accounts_at.Tie as tie
 

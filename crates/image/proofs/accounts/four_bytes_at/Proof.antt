@@ -1,7 +1,7 @@
 use borrow.Author.Needs.{needs}
 use lib.Seq.{drop-drop}
 use Rattle.codec.specs.Number.{byte-at}
-use Rattle.image.specs.Layout.{fourBytes}
+use Rattle.layout.specs.Layout.{fourBytes}
 use Rattle.image.proofs.accounts.four_bytes_at.Statement.{statement}
 use Rattle.image.proofs.accounts.four_bytes_at.Tie as tie
 

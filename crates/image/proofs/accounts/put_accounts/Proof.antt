@@ -1,6 +1,6 @@
 use borrow.Author.Needs.{needs}
 use Rattle.codec.specs.Laid.{laid}
-use Rattle.image.specs.Layout.{accounts, fourBytes}
+use Rattle.layout.specs.Layout.{accounts, fourBytes}
 use Rattle.image.proofs.accounts.put_accounts.Statement.{statement}
 use Rattle.image.proofs.accounts.put_accounts.Tie as tie
 

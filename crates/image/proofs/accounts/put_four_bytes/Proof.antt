@@ -4,7 +4,7 @@ use native.Mathlib.Nat.{one-mul}
 use borrow.Author.Needs.{needs}
 use Rattle.codec.specs.Loop.{Laying, laying-none, laying-more, laying-all}
 use Rattle.codec.specs.Number.{byte}
-use Rattle.image.specs.Layout.{fourBytes}
+use Rattle.layout.specs.Layout.{fourBytes}
 use Rattle.image.proofs.accounts.put_four_bytes.Statement.{statement}
 use Rattle.image.proofs.accounts.put_four_bytes.Tie as tie
 

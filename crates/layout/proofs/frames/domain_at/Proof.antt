@@ -1,0 +1,18 @@
+use borrow.Author.Needs.{needs}
+use lib.Seq.{drop-drop}
+use Rattle.codec.specs.Number.{byte-at}
+use Rattle.layout.specs.Layout.{domain}
+use Rattle.layout.proofs.frames.domain_at.Statement.{statement}
+use Rattle.layout.proofs.frames.domain_at.Tie as tie
+
+pub domain-at-spec : {M : Type 1} → statement M
+unfolding domain
+domain-at-spec =
+    tie.close
+    (tie.spec
+    (λ c κs. search needs)
+    (λ c. search needs)
+    (λ c κs. search needs)
+    (λ c. search needs)
+    (λ c. search needs)
+    (λ c. simp (drop-drop, byte-at) (cc)))
