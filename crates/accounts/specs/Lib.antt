@@ -1,2 +1,3 @@
 pub mod Figured
 pub mod Passed
+pub mod Before

@@ -5,3 +5,4 @@ pub mod Added
 pub mod WholeLock
 pub mod Figure
 pub mod Ledger
+pub mod Unbooted

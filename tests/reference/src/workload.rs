@@ -50,6 +50,11 @@ pub fn entry(d: u64) -> u64 {
     base(d, SERVICE) * PAGE_WORDS
 }
 
+/// The base and password of an object that has died, of which the Clist has a pair.
+pub fn dead(d: u64) -> [u64; 2] {
+    [base(d, 20 + DATA[1]), data_password(d, DATA[1])]
+}
+
 /// The lines that set the stage.
 pub fn stage() -> Vec<Line> {
     let mut lines = vec![Line::boot(0, [home(0), home(1), home(2), home(3)])];
@@ -223,12 +228,11 @@ impl Steps {
         Line::new(d, "CA", &[entry, choice])
     }
 
-    /// The other calls by turns, so that each change is undone: an object that
-    /// had died, for which the Clist still has a pair, a password, a slot.
+    /// The other calls by turns, so that each change is undone.
     fn other(&mut self, d: u64) -> Line {
         let made = &mut self.others[d as usize];
         *made += 1;
-        let (dead, old) = (base(d, 20 + DATA[1]), data_password(d, DATA[1]));
+        let [dead, old] = dead(d);
         let (kept, added) = (base(d, DATA[0]), 500 + d);
         match *made % 6 {
             1 => Line::new(d, "CR", &[dead, 1, old, 0]),

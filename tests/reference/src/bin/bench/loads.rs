@@ -74,6 +74,8 @@ fn behind_the_loads_stage() -> Vec<(&'static str, Vec<Line>)> {
     let call = Line::new(3, "CA", &[workload::entry(3), 0]);
     let insert = Line::new(3, "IN", &[1, 96, 14]);
     let add = Line::new(3, "AP", &[96, 777, 1]);
+    let [dead, password] = workload::dead(3);
+    let create = Line::new(3, "CR", &[dead, 1, password, 0]);
     vec![
         ("an empty line, refused by 1", Vec::new()),
         ("RD by domain 4, refused by 4", line(4, "RD", &[0])),
@@ -96,6 +98,7 @@ fn behind_the_loads_stage() -> Vec<(&'static str, Vec<Line>)> {
         ),
         ("IN and RM", vec![insert, Line::new(3, "RM", &[1])]),
         ("AP and DP", vec![add, Line::new(3, "DP", &[96, 777])]),
+        ("CR and DL", vec![create, Line::new(3, "DL", &[dead])]),
         ("BT", vec![Line::boot(0, [11, 12, 13, 14])]),
     ]
 }
