@@ -7,7 +7,14 @@ use Rattle.pages.proofs.pages_of.Tie as tie
 
 returns : tie.Need-returns
 unfolding pagesOf total
-returns c = simp zero-add (cc)
+returns c =
+    simp zero-add
+    (rw (
+      c .estate-pages4 .ensures,
+      c .before .before .estate-pages3 .ensures,
+      c .before .before .before .before .estate-pages2 .ensures,
+      c .before .before .before .before .before .before .estate-pages .ensures,
+    ))
 
 pub pages-of-spec : {M : Type 1} → statement M
 pages-of-spec =
