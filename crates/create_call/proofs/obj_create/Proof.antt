@@ -1,8 +1,10 @@
-use mathlib.Core.Path.{refl}
+use mathlib.Core.Path.{_≡_, refl}
 use native.Mathlib.Omega.{arith}
 use borrow.Author.Tests.{le-ltb, lt-ltb, le-leb}
 use borrow.Author.Needs.{needs}
 use Rattle.bounded.specs.Bools.{and-left}
+use Rattle.state.specs.Update.{newObject}
+use Rattle.state.specs.declared.Object.{Object}
 use Rattle.calls.specs.Rules.{rule, unlocked, late, changes}
 use Rattle.calls.specs.Laws.Parts.{alters-range, alters-late, alters-done}
 use Rattle.calls.specs.Laws.Told.{holds, fails}
@@ -10,6 +12,14 @@ use Rattle.calls.specs.declared.Refusal.the-variants.{NoRun, NotPermitted, Limi
 use Rattle.create_call.proofs.Ranges.{create-range, create-run}
 use Rattle.create_call.proofs.obj_create.Statement.{statement}
 use Rattle.create_call.proofs.obj_create.Tie as tie
+
+-- the object that CR asks for
+abbrev asked : tie.After-new-object → Object
+asked c = let g = c .before .before .before .before .before .before .args in newObject (g .page) (g .pages) (g .password) (g .account)
+
+-- it is the one that is made, on the account that is named
+made : (c : tie.After-new-object) → c .new-object .result ≡ asked c
+made c = c .new-object .ensures
 
 pub obj-create-spec : {M : Type 1} → statement M
 unfolding rule unlocked late changes
@@ -26,19 +36,19 @@ obj-create-spec =
     (λ c f.
     let r = c .before .before in let o = r .before in let a = o .before .before in
     alters-late _ _ _ f _ _ {why = NoRun} (holds (a .before .create-in-range .ensures) (a .if2 .left)) refl
-    (λ m q. rw (← o .new-object .ensures, fails (r .run-ok .ensures) (c .before .if3 .taken))) (c .unaltered3 .ensures))
+    (λ m q. rw (← made o, fails (r .run-ok .ensures) (c .before .if3 .taken))) (c .unaltered3 .ensures))
     (λ c. search needs) (λ c κs. search needs) (λ c κs. search needs)
     (λ c f.
     let s = c .before .before in let r = s .before .before .before in let o = r .before in let a = o .before .before in
     alters-late _ _ _ f _ _ {why = NotPermitted} (holds (a .before .create-in-range .ensures) (a .if2 .left)) refl
-    (λ m q. rw (← o .new-object .ensures, holds (r .run-ok .ensures) (s .before .before .if3 .left), fails (s .in-set .ensures) (c .before .if4 .taken)))
+    (λ m q. rw (← made o, holds (r .run-ok .ensures) (s .before .before .if3 .left), fails (s .in-set .ensures) (c .before .if4 .taken)))
     (c .unaltered4 .ensures))
     (λ c. let a = c .before .before .before .before .before .before .before in search (needs, create-range _ _ _ _ (holds (a .before .create-in-range .ensures) (a .if2 .left)) .2)) (λ c κs. let a = c .before .before .before .before .before .before .before .before in create-range _ _ _ _ (holds (a .before .create-in-range .ensures) (a .if2 .left)) .1) (λ c κs. search needs)
     (λ c f.
     let l = c .before .before in let s = l .before .before .before in let r = s .before .before .before in let o = r .before in let a = o .before .before in
     alters-late _ _ _ f _ _ {why = LimitPassed} (holds (a .before .create-in-range .ensures) (a .if2 .left)) refl
     (λ m q. rw (
-      ← o .new-object .ensures,
+      ← made o,
       holds (r .run-ok .ensures) (s .before .before .if3 .left),
       holds (s .in-set .ensures) (l .before .before .if4 .left),
       fails (l .within-limit .ensures) (c .before .if5 .taken),
@@ -50,7 +60,7 @@ obj-create-spec =
     let o = r .before in let a = o .before .before in
     alters-late _ _ _ f _ _ {why = Full} (holds (a .before .create-in-range .ensures) (a .if2 .left)) refl
     (λ m q. rw (
-      ← o .new-object .ensures,
+      ← made o,
       holds (r .run-ok .ensures) (s .before .before .if3 .left),
       holds (s .in-set .ensures) (l .before .before .if4 .left),
       holds (l .within-limit .ensures) (k .before .if5 .left),
@@ -67,7 +77,7 @@ obj-create-spec =
     let i = holds (r .run-ok .ensures) (n .before .before .if3 .left) in
     alters-done _ _ _ f _ _ (holds (a .before .create-in-range .ensures) (a .if2 .left)) refl
     (λ m q. rw (
-      ← o .new-object .ensures,
+      ← made o,
       i,
       holds (n .in-set .ensures) (l .before .before .if4 .left),
       holds (l .within-limit .ensures) (k .before .if5 .left),
@@ -77,8 +87,8 @@ obj-create-spec =
     (λ e m q s. rw (
       c .with-object .ensures,
       k .free-place .ensures,
-      o .new-object .ensures,
+      made o,
       z .zero-words .ensures,
       e .long,
-      le-leb _ _ (create-run _ _ _ _ _ _ (o .new-object .ensures) (and-left _ _ i) (e .known)),
+      le-leb _ _ (create-run _ _ _ _ _ _ (made o) (and-left _ _ i) (e .known)),
     ))))
