@@ -10,7 +10,7 @@ use crate::inputs;
 /// How many differing inputs are looked for, at most: of a family, and before
 /// the next family.
 const ENOUGH: usize = 2;
-const PLENTY: usize = 5;
+const PLENTY: usize = 3;
 
 /// How much to compare.
 #[derive(Clone, Copy, Debug)]
