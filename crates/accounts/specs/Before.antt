@@ -17,7 +17,8 @@ use Rattle.runs.specs.Laws.Unbooted.{Unbooted, empty-unbooted, step-unbooted}
 use Rattle.lines.specs.Grammar.{lineOf}
 use Rattle.lines.specs.Reading.{Reading, unreadable, bootBy, callBy}
 use Rattle.text.specs.Decimal.{decimal, digitsIn}
-use Rattle.stream.specs.Run.{Progress, reply, stateAfter, onByteBy, onByte, started}
+use Rattle.replies.specs.Reply.{reply, stateAfter}
+use Rattle.stream.specs.Run.{Progress, onByteBy, onByte, started}
 use Rattle.figures.specs.Lines.{figureLine, figureLines}
 use Rattle.accounts.specs.Figured.{figured}
 

@@ -9,7 +9,8 @@ use Rattle.calls.specs.Step.{step}
 use Rattle.lines.specs.Grammar.{lineOf}
 use Rattle.lines.specs.Until.{until}
 use Rattle.lines.specs.Reading.{unreadable}
-use Rattle.stream.specs.Run.{Progress, reply, onByteBy, extended, onByte, started}
+use Rattle.replies.specs.Reply.{reply}
+use Rattle.stream.specs.Run.{Progress, onByteBy, extended, onByte, started}
 use Rattle.stream.specs.Feeding.{before-feed}
 use Rattle.figures.specs.Lines.{figureLines}
 use Rattle.accounts.specs.Figured.{figured}

@@ -11,8 +11,10 @@ use Rattle.lines.specs.Grammar.{lineOf}
 use Rattle.lines.specs.Until.{until}
 use Rattle.lines.specs.Reading.{Reading, reads}
 use Rattle.lines.specs.declared.Line.{Line}
-use Rattle.stream.specs.Run.{Carrying, Progress, reply, nextNumber}
-use Rattle.stream.specs.Feed.{progressAt, told, heldBytes, heldByte}
+use Rattle.replies.specs.Reply.{Carrying, reply}
+use Rattle.replies.specs.Told.{told}
+use Rattle.stream.specs.Run.{Progress, nextNumber}
+use Rattle.stream.specs.Feed.{progressAt, heldBytes, heldByte}
 use Rattle.stream.specs.Feeding.{Fed, fed-part, fed-line, at-feed}
 use Rattle.stream.specs.Room.{shorter}
 

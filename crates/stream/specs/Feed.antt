@@ -8,10 +8,10 @@ use lib.ListN.{length, take, replicate}
 use Rattle.state.specs.Places.{emptyState}
 use Rattle.state.specs.declared.State.{State}
 use Rattle.calls.specs.Step.{world, unchecked}
-use Rattle.calls.specs.View.{World}
 use Rattle.lines.specs.Grammar.{lineBytes}
-use Rattle.text.specs.Answer.{answerLine, printed, printedEnd}
-use Rattle.stream.specs.Run.{Carrying, Reply, Progress, withLine, onByteBy}
+use Rattle.text.specs.Answer.{printed, printedEnd}
+use Rattle.replies.specs.Reply.{Carrying}
+use Rattle.stream.specs.Run.{Progress, withLine, onByteBy}
 use Rattle.stream.specs.declared.Feed.{Feed}
 
 -- the first `held` bytes of the line, and the first `at` bytes of the buffer
@@ -43,11 +43,6 @@ roomFor length at = leb (at + 273) length
 -- the piece is taken to its end, or there is no room for the longest answer
 abbrev pub stopped : ℕ → ℕ → ℕ → ℕ → Bool
 stopped piece out taken at = eqb taken piece || not (roomFor out at)
-
--- a reply printed at `at`: the text goes on by it, up to `at′` in the buffer, and its world stands
-abbrev pub told : ℕ → List ℕ → ℕ → List ℕ → ℕ → World → Reply → Type 0
-told number out at out′ at′ w a =
-    (take at′ out′ ≡ take at out ++ answerLine number (a .number) (a .values)) × (w ≡ a .world) × (at′ ≤ length out)
 
 -- one byte more, where it is held
 abbrev pub heldByte : List ℕ → ℕ → List ℕ

@@ -12,7 +12,8 @@ use Rattle.calls.specs.View.{World}
 use Rattle.lines.specs.Grammar.{lineOf}
 use Rattle.lines.specs.Until.{until, until-at, until-within}
 use Rattle.text.specs.Answer.{answerLine}
-use Rattle.stream.specs.Run.{Carrying, Reply, Progress, reply, nextNumber, lineDone, withLine, onByteBy}
+use Rattle.replies.specs.Reply.{Carrying, Reply, reply}
+use Rattle.stream.specs.Run.{Progress, nextNumber, lineDone, withLine, onByteBy}
 
 -- the bytes before a line feed are more of the line
 module _ (carry : Carrying) (more : List ℕ → ℕ → List ℕ) where

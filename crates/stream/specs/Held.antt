@@ -10,7 +10,8 @@ use lib.ListN.{length, take, set, length-append, length-take}
 use lib.Seq.{take-all, take-append-le, take-suc-set, length-take-le}
 use borrow.Author.Tests.{lt-ltb, le-ltb, ltb-true, ltb-false, eq-eqb, ne-eqb, eqb-true, eqb-false}
 use Rattle.lines.specs.Grammar.{lineBytes, lineOf}
-use Rattle.stream.specs.Run.{Carrying, Progress, reply, lineDone, withLine, onByteBy, extended, lastLine}
+use Rattle.replies.specs.Reply.{Carrying, reply}
+use Rattle.stream.specs.Run.{Progress, lineDone, withLine, onByteBy, extended, lastLine}
 use Rattle.stream.specs.Feed.{heldBytes, heldByte, onHeld, cut}
 
 -- a line reads as the bytes that are held

@@ -4,8 +4,6 @@ pub mod Pieces
 pub mod Program
 pub mod Feeding
 pub mod Feed
-pub mod Told
-pub mod Kinds
 pub mod Room
 pub mod Answered
 pub mod Turns

@@ -5,7 +5,8 @@ use mathlib.Core.Bool.{Bool, true, false, cond}
 use mathlib.Core.List.{List, [], _∷_, _++_, foldl, foldl-append, append-assoc, append-nil}
 use lib.Dec.{eqb}
 use Rattle.lines.specs.Grammar.{lineOf}
-use Rattle.stream.specs.Run.{Carrying, Progress, reply, lineDone, withLine, onByteBy, lastLine}
+use Rattle.replies.specs.Reply.{Carrying, reply}
+use Rattle.stream.specs.Run.{Progress, lineDone, withLine, onByteBy, lastLine}
 use Rattle.stream.specs.Feed.{flushed, joined}
 
 -- the same run behind a text

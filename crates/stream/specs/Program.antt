@@ -16,7 +16,8 @@ use Rattle.calls.specs.declared.Answer.{Answer}
 use Rattle.calls.specs.declared.Answer.the-variants.{Done, Refused}
 use Rattle.lines.specs.Grammar.{lineOf}
 use Rattle.lines.specs.Reading.{Reading, unreadable, bootBy, callBy}
-use Rattle.stream.specs.Run.{Progress, called, reply, stateAfter, lineDone, withLine, onByteBy, extended, header, started, lastLine, output}
+use Rattle.replies.specs.Reply.{called, reply, stateAfter}
+use Rattle.stream.specs.Run.{Progress, lineDone, withLine, onByteBy, extended, header, started, lastLine, output}
 use Rattle.stream.specs.Feed.{heldByte, onHeld, cut, joined}
 use Rattle.stream.specs.Held.{cut-run, cut-last}
 use Rattle.stream.specs.Pieces.{writtenFor, pieces-whole}

@@ -13,7 +13,7 @@ use Rattle.stream.specs.Run.{Progress, header, started, lastLine, output
 use Rattle.stream.specs.Pieces.{writtenFor, written-flushed}
 use Rattle.stream.specs.Program.{program-writes}
 use Rattle.stream.specs.Feed.{startFeed, progressOf, finishedText, finishedEnd, heldBytes, heldByte, flushed, joined, Turns, finish, turn}
-use Rattle.stream.specs.Told.{told-text}
+use Rattle.replies.specs.Told.{told-text}
 use Rattle.stream.specs.declared.Feed.{Feed}
 
 -- the program starts where the definition does, with the header written

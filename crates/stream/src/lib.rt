@@ -1,20 +1,17 @@
 // The call program's work on the pieces of its input.
 use apply::domain_call;
-use boots::boot_line;
-use calls::Access;
 use calls::BOOT_NUMBERS;
-use calls::DomainCall;
-use calls::ObjectCall;
 use held::hold;
 use held::read_one;
-use kinds::access_line;
-use kinds::kind_of;
-use kinds::object_line;
 use lines::LINE_BYTES;
 use lines::find;
+use replies::Kind;
+use replies::boots::boot_line;
+use replies::kinds::access_line;
+use replies::kinds::kind_of;
+use replies::kinds::object_line;
 use state::Accounts;
 use state::Domain;
-use state::Estate;
 use state::State;
 use state::Table;
 use state::estates::empty_state;
@@ -29,9 +26,7 @@ ghost use Rattle.calls.specs.Step.{unchecked};
 ghost use Rattle.stream.specs.Run.{nextNumber, header};
 ghost use Rattle.stream.specs.Feed.{startFeed, progressOf, finishedText, finishedEnd, roomFor, stopped, onHeld};
 
-mod boots;
 mod held;
-mod kinds;
 
 // So many bytes of a line are held: one more than the longest has, enough to tell that it is too long.
 pub const HELD_BYTES: usize = LINE_BYTES + 1;
@@ -48,28 +43,6 @@ pub struct Feed {
     pub at: usize,
     // How many bytes of the piece were taken.
     pub taken: usize,
-}
-
-// What a line asks for, by what it may change: nothing, for its answer is known (its number); words; an estate and words; the caller's
-// domain; all.
-enum Kind {
-    Known(u64),
-    Access(usize, Access),
-    Object(usize, ObjectCall),
-    Domain(usize, DomainCall),
-    Boot(u64),
-}
-
-// Behind a line: the part of the state that it may have changed, and the end of the text.
-struct NewEstate {
-    place: usize,
-    estate: Estate,
-    at: usize,
-}
-
-struct NewState {
-    state: State,
-    at: usize,
 }
 
 fn next_number(n: u64) -> u64

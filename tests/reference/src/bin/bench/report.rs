@@ -7,7 +7,10 @@ use std::time::Duration;
 
 /// Parts of the program: their names, and how their symbols begin.
 const PARTS: [(&str, &[&str]); 7] = [
-    ("reading", &["monitor::", "turns::", "stream::", "lines::"]),
+    (
+        "reading",
+        &["monitor::", "turns::", "stream::", "replies::", "lines::"],
+    ),
     ("soundness", &["soundness::"]),
     ("judging", &["clists::", "judge::", "rights::", "state::"]),
     (

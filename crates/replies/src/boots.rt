@@ -1,4 +1,4 @@
-// A boot, answered.
+// A boot, answered where the longest answer has room.
 use crate::NewState;
 use boot::boot;
 use calls::Answer;
@@ -9,8 +9,8 @@ ghost use Prim.Native.Nat.{_+_, _≤_};
 ghost use lib.ListN.{length};
 ghost use Rattle.calls.specs.Step.{world, unchecked};
 ghost use Rattle.lines.specs.Reading.{bootBy};
-ghost use Rattle.stream.specs.Run.{reply};
-ghost use Rattle.stream.specs.Feed.{told};
+ghost use Rattle.replies.specs.Reply.{reply};
+ghost use Rattle.replies.specs.Told.{told};
 
 // A refused one leaves the state as it is.
 pub fn boot_line(
@@ -22,8 +22,7 @@ pub fn boot_line(
     out: &mut [u8],
     at: usize,
 ) -> NewState
-    requires { ⌜ at + 273 ≤ length (now out) ⌝ }
-    ensures { λ r. ⌜ told number (now (out .entry)) at (now (out .exit)) (r .at) (world (r .state) (now (store .exit))) (reply unchecked (world s (now (store .entry))) (bootBy d plan)) ⌝ }
+    ensures { λ r. ⌜ (at + 273 ≤ length (now (out .entry)) → told number (now (out .entry)) at (now (out .exit)) (r .at) (world (r .state) (now (store .exit))) (reply unchecked (world s (now (store .entry))) (bootBy d plan))) ⌝ }
 {
     let o = boot(store, d, plan);
     let answer = o.answer;

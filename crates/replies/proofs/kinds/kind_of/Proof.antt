@@ -1,7 +1,7 @@
 use borrow.Author.Needs.{needs}
-use Rattle.stream.specs.Kinds.{unread-kind}
-use Rattle.stream.proofs.kinds.kind_of.Statement.{statement}
-use Rattle.stream.proofs.kinds.kind_of.Tie as tie
+use Rattle.replies.specs.Kinds.{unread-kind}
+use Rattle.replies.proofs.kinds.kind_of.Statement.{statement}
+use Rattle.replies.proofs.kinds.kind_of.Tie as tie
 
 pub kind-of-spec : {M : Type 1} → statement M
 kind-of-spec =

@@ -20,7 +20,7 @@ ghost use mathlib.Core.Path.{_≡_};
 ghost use Prim.Native.Nat.{_+_, _<_, _≤_};
 ghost use lib.ListN.{length};
 ghost use Rattle.lines.specs.declared.Line.the-variants.{Call as Line·Call};
-ghost use Rattle.stream.specs.Kinds.{IsKind, accessTold, objectTold};
+ghost use Rattle.replies.specs.Kinds.{IsKind, accessTold, objectTold};
 
 // A call of a domain that is known.
 fn known_kind(d: usize, call: Call, words: usize) -> Kind
@@ -56,7 +56,7 @@ pub fn kind_of(words: usize, reading: Line) -> Kind
     }
 }
 
-// An access, answered: where the text ends.
+// An access, answered where the longest answer has room: where the text ends.
 pub fn access_line(
     t: Table,
     store: &mut [u64],
@@ -66,14 +66,13 @@ pub fn access_line(
     out: &mut [u8],
     at: usize,
 ) -> usize
-    requires { ⌜ at + 273 ≤ length (now out) ⌝ }
-    ensures { λ r. ⌜ accessTold t f call number (now (store .entry)) (now (store .exit)) (now (out .entry)) at (now (out .exit)) r ⌝ }
+    ensures { λ r. ⌜ (at + 273 ≤ length (now (out .entry)) → accessTold t f call number (now (store .entry)) (now (store .exit)) (now (out .entry)) at (now (out .exit)) r) ⌝ }
 {
     let a = access(t, store, f, call);
     put_line(out, at, number, answer_number(a), &[answer_value(a)])
 }
 
-// A call on objects by domain d, answered. A place past the last changes nothing: the first estate, as it is, stands for it.
+// A call on objects by domain d, answered where the longest answer has room. A place past the last changes nothing: the first estate, as it is, stands for it.
 pub fn object_line(
     t: Table,
     x: Accounts,
@@ -85,8 +84,7 @@ pub fn object_line(
     out: &mut [u8],
     at: usize,
 ) -> NewEstate
-    requires { ⌜ at + 273 ≤ length (now out) ⌝ }
-    ensures { λ r. ⌜ objectTold t x d f call number (now (store .entry)) (now (store .exit)) (now (out .entry)) at (now (out .exit)) r × (r .place < 4) ⌝ }
+    ensures { λ r. ⌜ (at + 273 ≤ length (now (out .entry)) → objectTold t x d f call number (now (store .entry)) (now (store .exit)) (now (out .entry)) at (now (out .exit)) r) × (r .place < 4) ⌝ }
 {
     let r = object_call(t, x, store, d as u64, f, call);
     let a = r.answer;

@@ -13,7 +13,12 @@ use Rattle.calls.specs.declared.Answer.{Answer}
 use Rattle.calls.specs.declared.Fields.{Fields}
 use Rattle.text.specs.Answer.{answerLine, printed, printedEnd}
 use Rattle.text.specs.Size.{up-to-end, answer-length}
-use Rattle.stream.specs.Feed.{told}
+use Rattle.replies.specs.Reply.{Reply}
+
+-- a reply printed at `at`: the text goes on by it, up to `at′` in the buffer, and its world stands
+abbrev pub told : ℕ → List ℕ → ℕ → List ℕ → ℕ → World → Reply → Type 0
+told number out at out′ at′ w a =
+    (take at′ out′ ≡ take at out ++ answerLine number (a .number) (a .values)) × (w ≡ a .world) × (at′ ≤ length out)
 
 -- an answer printed where there is room for the longest: the text goes on by it
 pub told-text : (out : List ℕ) (at number answer : ℕ) (vs : List ℕ) {out′ : List ℕ} {at′ : ℕ} → at + 273 ≤ length out → length vs ≤ 11

@@ -1,8 +1,8 @@
 use mathlib.Core.Path.{sym, _∙_}
 use borrow.Author.Needs.{needs}
-use Rattle.stream.specs.Kinds.{known-caller, refused-kind}
-use Rattle.stream.proofs.kinds.call_kind.Statement.{statement}
-use Rattle.stream.proofs.kinds.call_kind.Tie as tie
+use Rattle.replies.specs.Kinds.{known-caller, refused-kind}
+use Rattle.replies.proofs.kinds.call_kind.Statement.{statement}
+use Rattle.replies.proofs.kinds.call_kind.Tie as tie
 
 pub call-kind-spec : {M : Type 1} → statement M
 call-kind-spec =

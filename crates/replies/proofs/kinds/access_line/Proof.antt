@@ -1,13 +1,13 @@
 use borrow.Author.Needs.{needs}
-use Rattle.stream.specs.Kinds.{access-told}
-use Rattle.stream.proofs.kinds.access_line.Statement.{statement}
-use Rattle.stream.proofs.kinds.access_line.Tie as tie
+use Rattle.replies.specs.Kinds.{access-told}
+use Rattle.replies.proofs.kinds.access_line.Statement.{statement}
+use Rattle.replies.proofs.kinds.access_line.Tie as tie
 
 pub access-line-spec : {M : Type 1} → statement M
 access-line-spec =
     tie.close
     (tie.spec (λ c κs. search needs) (λ c κs. search needs) (λ c κs. search needs) (λ c. search needs) (λ c κs. search needs) (λ c. search needs) (λ c. search needs)
-    (λ c.
+    (λ c h.
     let a = c .before .before .before .before .before .before .before .before .before .access in
     let p = rw (c .before .before .before .before .answer-value .ensures, c .before .before .before .before .before .answer-number .ensures) at (c .before .before .put-line .ensures) in
-    access-told _ _ _ (a .result) _ _ _ _ _ (a .ensures) (c .before .before .before .before .before .before .before .before .before .before .before .before .before .pre) (p .0) (p .1)))
+    access-told _ _ _ (a .result) _ _ _ _ _ (a .ensures) h (p .0) (p .1)))

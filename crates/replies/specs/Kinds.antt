@@ -33,12 +33,11 @@ use Rattle.lines.specs.Reading.{bootBy, callBy, reads}
 use Rattle.lines.specs.declared.Line.{Line}
 use Rattle.lines.specs.declared.Line.the-variants.{Unreadable, Boot, Call}
 use Rattle.text.specs.Answer.{printed, printedEnd}
-use Rattle.stream.specs.Run.{stateAfter, reply}
-use Rattle.stream.specs.Feed.{told}
-use Rattle.stream.specs.Told.{printed-told, answer-told}
-use Rattle.stream.specs.declared.Kind.{Kind}
-use Rattle.stream.specs.declared.Kind.the-variants as kind
-use Rattle.stream.specs.declared.NewEstate.{NewEstate}
+use Rattle.replies.specs.Reply.{stateAfter, reply}
+use Rattle.replies.specs.Told.{told, printed-told, answer-told}
+use Rattle.replies.specs.declared.Kind.{Kind}
+use Rattle.replies.specs.declared.Kind.the-variants as kind
+use Rattle.replies.specs.declared.NewEstate.{NewEstate}
 
 -- the kind of a line, with a store of n words
 abbrev pub IsKind : Kind → ℕ → Line → Type 0
