@@ -72,7 +72,8 @@ pub fn access_line(
     put_line(out, at, number, answer_number(a), &[answer_value(a)])
 }
 
-// A call on objects by domain d, answered where the longest answer has room. A place past the last changes nothing: the first estate, as it is, stands for it.
+// A call on objects by domain d, answered where the longest answer has room. A place past the last changes nothing: the first estate,
+// as it is, stands for it.
 pub fn object_line(
     t: Table,
     x: Accounts,
