@@ -44,6 +44,11 @@ or-unless false b h = h refl
 pub or-left : (a b : Bool) → a ≡ true → (a || b) ≡ true
 or-left a b h = rw h
 
+-- neither holds where one of the two does not
+pub neither : (a b : Bool) → (a || b) ≡ false → (a ≡ false) × (b ≡ false)
+neither true b h = absurd (true≢false h)
+neither false b h = (refl, h)
+
 -- a Bool is one or the other
 pub flag : (b : Bool) → (b ≡ true) ⊎ (b ≡ false)
 flag true = inl refl

@@ -24,3 +24,13 @@ tabulate-set ℕ.zero g (x ∷ l) i v d h = absurd (omega arith)
 tabulate-set (suc n) g [] i v d h = absurd (omega arith)
 tabulate-set (suc n) g (x ∷ l) ℕ.zero v d h = refl
 tabulate-set (suc n) g (x ∷ l) (suc i) v d h = ap (λ t. g x ∷ t) (tabulate-set n g l i v d (suc-inj h))
+
+-- lists that agree at each place are equal
+pub by-places : {A : Type 0} (n : ℕ) (l m : List A) (d : A) → length l ≡ n → length m ≡ n → ((k : ℕ) → k < n → getD l k d ≡ getD m k d) → l ≡ m
+by-places ℕ.zero [] [] d a b h = refl
+by-places ℕ.zero (x ∷ l) m d a b h = absurd (omega arith)
+by-places ℕ.zero [] (y ∷ m) d a b h = absurd (omega arith)
+by-places (suc n) [] m d a b h = absurd (omega arith)
+by-places (suc n) (x ∷ l) [] d a b h = absurd (omega arith)
+by-places (suc n) (x ∷ l) (y ∷ m) d a b h =
+    rw (h 0 (omega arith)) (ap (λ t. y ∷ t) (by-places n l m d (suc-inj a) (suc-inj b) (λ k o. h (suc k) (omega arith))))

@@ -5,3 +5,4 @@ pub mod Every
 pub mod Fill
 pub mod Sum
 pub mod Folds
+pub mod Shift

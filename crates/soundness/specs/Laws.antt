@@ -6,6 +6,7 @@ pub mod Distinct
 pub mod DomainParts
 pub mod ObjectParts
 pub mod StateParts
+pub mod Order
 pub mod Unused
 pub mod Frames
 pub mod Domains
@@ -13,8 +14,4 @@ pub mod Passwords
 pub mod Objects
 pub mod Estates
 pub mod Found
-pub mod Same
-pub mod Full
-pub mod ObjectRoom
-pub mod PasswordRoom
-pub mod Figure
+pub mod OneTable

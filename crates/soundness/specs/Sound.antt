@@ -1,7 +1,7 @@
--- Soundness: document 01, "Ground and bounds", items 1 to 5, and the bounds of accounts (document 02, T-05). For document 02, T-02, every unused place holds zeros, so that one
--- state is one value; Laws/Unused.antt says so place by place. The lengths of the arrays are part of the definition, and hold
--- of every value that code can hand over.
-use Prim.Native.Nat.{ℕ, _/_}
+-- Soundness: document 01, "Ground and bounds", items 1 to 5, the bounds of accounts (document 02, T-05), and the one order of objects and
+-- passwords (T-06). Every unused place holds zeros (T-02; Laws/Unused.antt says so place by place), so that one state is one value
+-- (Laws/OneTable.antt). The lengths of the arrays are part of the definition, and hold of every value that code can hand over.
+use Prim.Native.Nat.{ℕ, _+_, _/_}
 use mathlib.Core.Bool.{Bool, true, false, not, cond, _&&_, _||_}
 use mathlib.Core.List.{List, [], _∷_}
 use lib.Dec.{leb, ltb, eqb}
@@ -10,7 +10,7 @@ use Rattle.bounded.specs.Every.{below}
 use Rattle.bounded.specs.Fill.{tabulate}
 use Rattle.rights.specs.Modes.{legal}
 use Rattle.state.specs.Places.{slotAt, savedAt, passwordAt, entryAt, objectAt, estateAt, domainAt, limitAt, setAt}
-use Rattle.state.specs.Extent.{free, covers, liesIn, apart}
+use Rattle.state.specs.Extent.{free, covers, liesIn}
 use Rattle.state.specs.declared.Capability.{Capability}
 use Rattle.state.specs.declared.Object.{Object}
 use Rattle.state.specs.declared.Estate.{Estate}
@@ -56,28 +56,36 @@ registrationOk o =
 unfoldable pub withoutPasswords : Object → Bool
 withoutPasswords o = eqb (o .registration .password) 0 && below 4 (λ k. eqb (passwordAt o k .word) 0)
 
--- items 2 to 4: the passwords of an object, the registration's too, are all different; a free object has the base 0 and no
--- passwords and the account 0, and thereby is all zero; a standing one lies in its estate and is on one of the four accounts
+-- T-06: behind a free place for a password the next is free too
+unfoldable pub passwordNext : Object → ℕ → Bool
+passwordNext o k = not (eqb (passwordAt o k .word) 0) || eqb (passwordAt o (k + 1) .word) 0
+
+-- item 4: each place for a password is sound, no password stands behind a free place, and all, the registration's too, are different
+unfoldable pub passwordsOk : Object → Bool
+passwordsOk o = below 4 (passwordOk o) && (below 3 (passwordNext o) && distinct (allPasswords o))
+
+-- items 2 to 4: a free object has the base 0 and no passwords and the account 0, and thereby is all zero; a standing one lies in its
+-- estate and is on one of the four accounts
 unfoldable pub objectBounds : Object → ℕ → Bool
 objectBounds o d =
-    below 4 (passwordOk o) && distinct (allPasswords o) && registrationOk o
+    passwordsOk o && registrationOk o
     && cond (free o) (eqb (o .base) 0 && withoutPasswords o && eqb (o .account) 0) (liesIn o d && ltb (o .account) 4)
 
 -- a place for an object
 unfoldable pub objectOk : Object → ℕ → Bool
 objectOk o d = eqb (length (o .passwords)) 4 && eqb (length (o .registration .entries)) 4 && objectBounds o d
 
--- the object at place i is apart from that at place j, where j comes before i
-unfoldable pub apartAt : Estate → ℕ → ℕ → Bool
-apartAt e i j = leb i j || apart (objectAt e j) (objectAt e i)
+-- item 3 and T-06: of two places side by side the second is free, or the first has an object that ends before the second's base. So
+-- the objects stand in the first places by rising base, and no two have a page in common (Laws/Order.antt).
+unfoldable pub follows : Object → Object → Bool
+follows a b = free b || (not (free a) && leb (a .base + a .pages) (b .base))
 
--- item 3: it is apart from all before it
-unfoldable pub apartFrom : Estate → ℕ → Bool
-apartFrom e i = below 8 (apartAt e i)
+unfoldable pub orderedAt : Estate → ℕ → Bool
+orderedAt e k = follows (objectAt e k) (objectAt e (k + 1))
 
 -- item 2: an estate is eight places for objects
 unfoldable pub estateOk : Estate → ℕ → Bool
-estateOk e d = eqb (length (e .objects)) 8 && below 8 (λ k. objectOk (objectAt e k) d) && below 8 (apartFrom e)
+estateOk e d = eqb (length (e .objects)) 8 && below 8 (λ k. objectOk (objectAt e k) d) && below 7 (orderedAt e)
 
 -- item 5: a slot past the count is zero; one in use names a page below 128
 unfoldable pub slotOk : Frame → ℕ → Bool

@@ -2,7 +2,6 @@
 use state::Estate;
 use state::Object;
 use state::Password;
-use state::extents::apart;
 use state::extents::covers;
 use state::extents::lies_in;
 ghost use mathlib.Core.Path.{_≡_};
@@ -15,7 +14,7 @@ ghost use Rattle.rights.specs.Modes.{legal};
 ghost use Rattle.rights.specs.Table.{modeTable};
 ghost use Rattle.state.specs.Places.{entryAt, objectAt};
 ghost use Rattle.state.specs.Extent.{free, covers, liesIn};
-ghost use Rattle.soundness.specs.Sound.{distinct, allPasswords, registrationOk, withoutPasswords, objectOk, apartFrom, estateOk};
+ghost use Rattle.soundness.specs.Sound.{distinct, allPasswords, passwordNext, registrationOk, withoutPasswords, objectOk, follows, orderedAt, estateOk};
 ghost use Rattle.soundness.specs.Laws.Reach.{reach};
 
 // Whether a password is all zero or has a legal mode.
@@ -38,16 +37,19 @@ fn all_distinct(v: u64, w: u64, x: u64, y: u64, z: u64) -> bool
     ((v == 0) | first) & (((w == 0) | second) & (((x == 0) | third) & ((y == 0) | fourth)))
 }
 
-// Whether no password of the object, the registration's included, stands twice.
-fn passwords_distinct(o: Object) -> bool
-    ensures { λ r. ⌜ r ≡ distinct (allPasswords o) ⌝ }
+// Whether no password of the object stands behind a free place, and none, the registration's included, stands twice.
+fn passwords_placed(o: Object) -> bool
+    ensures { λ r. ⌜ r ≡ (below 3 (passwordNext o) && distinct (allPasswords o)) ⌝ }
 {
     let g = o.registration;
     let p = o.passwords[0];
     let q = o.passwords[1];
     let r = o.passwords[2];
     let s = o.passwords[3];
-    all_distinct(g.password, p.word, q.word, r.word, s.word)
+    let first = ((p.word != 0) | (q.word == 0))
+        & ((q.word != 0) | (r.word == 0))
+        & ((r.word != 0) | (s.word == 0));
+    first & all_distinct(g.password, p.word, q.word, r.word, s.word)
 }
 
 // Whether an entry is unused or inside the object.
@@ -127,36 +129,27 @@ fn object_ok(modes: &[u8], o: Object, d: u8) -> bool
         & password_ok(modes, o.passwords[1])
         & password_ok(modes, o.passwords[2])
         & password_ok(modes, o.passwords[3]);
-    passwords & passwords_distinct(o) & registration_ok(o) & place_ok(o, d)
+    passwords & passwords_placed(o) & registration_ok(o) & place_ok(o, d)
 }
 
-// Whether the object at place i is apart from all before it.
-fn apart_from(e: Estate, i: usize, o: Object) -> bool
-    requires { ⌜ o ≡ objectAt e i ⌝ }
-    ensures { λ r. ⌜ r ≡ apartFrom e i ⌝ }
+// Whether b is free, or a stands and ends before b's base.
+fn follows(a: Object, b: Object) -> bool
+    ensures { λ r. ⌜ r ≡ follows a b ⌝ }
 {
-    ((i <= 0) | apart(e.objects[0], o))
-        & ((i <= 1) | apart(e.objects[1], o))
-        & ((i <= 2) | apart(e.objects[2], o))
-        & ((i <= 3) | apart(e.objects[3], o))
-        & ((i <= 4) | apart(e.objects[4], o))
-        & ((i <= 5) | apart(e.objects[5], o))
-        & ((i <= 6) | apart(e.objects[6], o))
-        & ((i <= 7) | apart(e.objects[7], o))
+    (b.pages == 0) | ((a.pages != 0) & (a.base as u64 + a.pages as u64 <= b.base as u64))
 }
 
-// Whether no two objects of the estate overlap.
-fn all_apart(e: Estate) -> bool
-    ensures { λ r. ⌜ r ≡ below 8 (apartFrom e) ⌝ }
+// Whether the objects of the estate stand in the first places, by rising base, and apart.
+fn in_order(e: Estate) -> bool
+    ensures { λ r. ⌜ r ≡ below 7 (orderedAt e) ⌝ }
 {
-    apart_from(e, 0, e.objects[0])
-        & apart_from(e, 1, e.objects[1])
-        & apart_from(e, 2, e.objects[2])
-        & apart_from(e, 3, e.objects[3])
-        & apart_from(e, 4, e.objects[4])
-        & apart_from(e, 5, e.objects[5])
-        & apart_from(e, 6, e.objects[6])
-        & apart_from(e, 7, e.objects[7])
+    follows(e.objects[0], e.objects[1])
+        & follows(e.objects[1], e.objects[2])
+        & follows(e.objects[2], e.objects[3])
+        & follows(e.objects[3], e.objects[4])
+        & follows(e.objects[4], e.objects[5])
+        & follows(e.objects[5], e.objects[6])
+        & follows(e.objects[6], e.objects[7])
 }
 
 // Whether each object of the estate keeps its bounds.
@@ -179,5 +172,5 @@ pub fn estate_ok(modes: &[u8], e: Estate, d: u8) -> bool
     requires { ⌜ now modes ≡ modeTable ⌝ }
     ensures { λ r. ⌜ r ≡ estateOk e d ⌝ }
 {
-    objects_ok(modes, e, d) & all_apart(e)
+    objects_ok(modes, e, d) & in_order(e)
 }

@@ -3,5 +3,4 @@ pub mod Extent
 pub mod Lookup
 pub mod Update
 pub mod Pages
-pub mod Same
 pub mod Laws

@@ -1,7 +1,7 @@
 -- What is looked up in the object table.
 use Prim.Native.Nat.{ℕ}
 use mathlib.Core.Bool.{Bool, not, cond, _&&_, _||_}
-use lib.Dec.{eqb}
+use lib.Dec.{ltb, eqb}
 use Rattle.bounded.specs.Search.{first}
 use Rattle.state.specs.Places.{freeObject, objectAt, passwordAt, estateOf}
 use Rattle.state.specs.Extent.{free, covers}
@@ -38,15 +38,19 @@ objectCovering t page = covering (estateOf t page) page
 unfoldable pub objectBased : Table → ℕ → Object
 objectBased t page = based (estateOf t page) page
 
--- the first free place for an object
-unfoldable pub freePlace : Estate → ℕ
-freePlace e = placeWhere free e
+-- the place for a new object with the base: that of the first object with a higher base, or else the first free one
+unfoldable pub placeAbove : Estate → ℕ → ℕ
+placeAbove e base = placeWhere (λ o. free o || ltb base (o .base)) e
+
+-- an estate whose last place is free has room for an object more: the objects stand in the first places (document 02, T-06)
+unfoldable pub hasRoom : Estate → Bool
+hasRoom e = free (objectAt e 7)
 
 -- the place of a word among the ordinary passwords, 4 where it is none of them
 unfoldable pub placeOf : Object → ℕ → ℕ
 placeOf o word = first (λ k. eqb (passwordAt o k .word) word) (λ k. k) 4 0 4
 
--- the first free place for a password, one with the word 0; 4 where there is none
+-- the first free place for a password, one with the word 0, behind the last password; 4 where there is none
 abbrev pub freePasswordPlace : Object → ℕ
 freePasswordPlace o = placeOf o 0
 

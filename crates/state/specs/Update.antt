@@ -5,8 +5,9 @@ use mathlib.Core.List.{List, _∷_}
 use lib.Dec.{leb, ltb, eqb}
 use lib.ListN.{set, replicate}
 use Rattle.bounded.specs.Fill.{tabulate}
-use Rattle.state.specs.Places.{noCapability, noPassword, freeRegistration, emptyFrame, slotAt, savedAt}
-use Rattle.state.specs.Lookup.{placeOf, freePasswordPlace}
+use Rattle.bounded.specs.Shift.{putIn, takenOut}
+use Rattle.state.specs.Places.{noCapability, noPassword, freeRegistration, freeObject, emptyFrame, slotAt, savedAt, passwordAt, objectAt}
+use Rattle.state.specs.Lookup.{placeOf, freePasswordPlace, placeAbove}
 use Rattle.state.specs.declared.Capability.{Capability}
 use Rattle.state.specs.declared.Password.{Password}
 use Rattle.state.specs.declared.Registration.{Registration}
@@ -18,7 +19,7 @@ use Rattle.state.specs.declared.State.{State}
 
 -- the slot at k once c stands at `at`: the slots from there on are numbered one higher
 abbrev pub slotIn : Frame → ℕ → Capability → ℕ → Capability
-slotIn f at c k = cond (ltb k at) (slotAt f k) (cond (eqb k at) c (slotAt f (k - 1)))
+slotIn f = putIn (slotAt f)
 
 -- a slot more at a place, where there is room
 unfoldable pub insertSlot : Frame → ℕ → Capability → Frame
@@ -29,7 +30,7 @@ insertSlot f at c =
 
 -- the slot at k once that at `at` is gone: the slots behind it are numbered one lower
 abbrev pub slotOut : Frame → ℕ → ℕ → Capability
-slotOut f at k = cond (ltb k at) (slotAt f k) (cond (ltb k 7) (slotAt f (k + 1)) noCapability)
+slotOut f = takenOut (slotAt f) 7 noCapability
 
 -- a slot less, where it stands
 unfoldable pub removeSlot : Frame → ℕ → Frame
@@ -86,20 +87,38 @@ withPasswords o ps = record { base = o .base; pages = o .pages; passwords = ps; 
 abbrev pub withRegistration : Object → Registration → Object
 withRegistration o g = record { base = o .base; pages = o .pages; passwords = o .passwords; registration = g; account = o .account }
 
--- a password more, at the first free place: the choice of place is the program's
+-- a password more, behind the last: document 02, T-06, oldest first
 unfoldable pub addPassword : Object → ℕ → ℕ → Object
 addPassword o word mode = withPasswords o (set (o .passwords) (freePasswordPlace o) (record { word = word; mode = mode }))
+
+-- the ordinary password at k once that at `at` is gone: the younger ones close the gap
+abbrev pub passwordOut : Object → ℕ → ℕ → Password
+passwordOut o = takenOut (passwordAt o) 3 noPassword
 
 -- DP: an ordinary password goes, or the whole registration whose password it is
 unfoldable pub dropPassword : Object → ℕ → Object
 dropPassword o word =
     cond (eqb word 0) o
     (cond (eqb (o .registration .password) word) (withRegistration o freeRegistration)
-    (withPasswords o (set (o .passwords) (placeOf o word) noPassword)))
+    (withPasswords o (tabulate 4 (passwordOut o (placeOf o word)))))
 
--- another object at a place of the estate; a free one clears the place
+-- another object at a place of the estate
 abbrev pub withObject : Estate → ℕ → Object → Estate
 withObject e k o = record { objects = set (e .objects) k o }
+
+-- CR: an object more, before the first with a higher base: document 02, T-06, by rising base
+abbrev pub objectIn : Estate → ℕ → Object → ℕ → Object
+objectIn e = putIn (objectAt e)
+
+unfoldable pub insertObject : Estate → Object → Estate
+insertObject e o = record { objects = tabulate 8 (objectIn e (placeAbove e (o .base)) o) }
+
+-- DL: an object less; those behind it close the gap
+abbrev pub objectOut : Estate → ℕ → ℕ → Object
+objectOut e = takenOut (objectAt e) 7 freeObject
+
+unfoldable pub removeObject : Estate → ℕ → Estate
+removeObject e at = record { objects = tabulate 8 (objectOut e at) }
 
 -- another estate, another domain
 abbrev pub withEstate : State → ℕ → Estate → State

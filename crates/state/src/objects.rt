@@ -5,9 +5,11 @@ use crate::Password;
 use crate::Registration;
 ghost use lib.ListN.{set};
 ghost use mathlib.Core.Path.{_≡_};
+ghost use Prim.Native.Nat.{_<_};
+ghost use Rattle.bounded.specs.Fill.{tabulate};
 ghost use Rattle.state.specs.Places.{freeRegistration, freeObject};
 ghost use Rattle.state.specs.Lookup.{hasBase, placeOf, freePasswordPlace, ordinaryMode, modeOf, hasPassword};
-ghost use Rattle.state.specs.Update.{newObject, withPasswords, addPassword, dropPassword, withRegistration};
+ghost use Rattle.state.specs.Update.{newObject, withPasswords, addPassword, passwordOut, dropPassword, withRegistration};
 
 // Whether the object stands and has the base.
 pub fn has_base(o: Object, page: u64) -> bool
@@ -142,7 +144,7 @@ pub fn new_object(base: u8, pages: u8, word: u64, account: u8) -> Object
     }
 }
 
-// Another password at a place; the word 0 clears it. Past the last place nothing changes.
+// Another password at a place. Past the last place nothing changes.
 fn with_password(o: Object, k: usize, p: Password) -> Object
     ensures { λ r. ⌜ r ≡ withPasswords o (set (o .passwords) k p) ⌝ }
 {
@@ -154,7 +156,7 @@ fn with_password(o: Object, k: usize, p: Password) -> Object
     r
 }
 
-// A password more, at the first free place. With four nothing changes.
+// A password more, behind the last. With four nothing changes.
 pub fn add_password(o: Object, word: u64, mode: u8) -> Object
     ensures { λ r. ⌜ r ≡ addPassword o word mode ⌝ }
 {
@@ -168,6 +170,34 @@ pub fn add_password(o: Object, word: u64, mode: u8) -> Object
     )
 }
 
+// What stands at k once the password at `at` is gone.
+fn password_out(o: Object, at: usize, k: usize) -> Password
+    requires { ⌜ k < 4 ⌝ }
+    ensures { λ r. ⌜ r ≡ passwordOut o at k ⌝ }
+{
+    if k < at {
+        return o.passwords[k];
+    }
+    if k < 3 {
+        return o.passwords[k + 1];
+    }
+    Password { word: 0, mode: 0 }
+}
+
+// A password less; the younger ones close the gap. Past the last place nothing changes.
+fn without_password(o: Object, at: usize) -> Object
+    ensures { λ r. ⌜ r ≡ withPasswords o (tabulate 4 (passwordOut o at)) ⌝ }
+{
+    let mut r = o;
+    r.passwords = [
+        password_out(o, at, 0),
+        password_out(o, at, 1),
+        password_out(o, at, 2),
+        password_out(o, at, 3),
+    ];
+    r
+}
+
 // Drops a password, or the registration that has it. An absent password changes nothing.
 pub fn drop_password(o: Object, word: u64) -> Object
     ensures { λ r. ⌜ r ≡ dropPassword o word ⌝ }
@@ -179,7 +209,7 @@ pub fn drop_password(o: Object, word: u64) -> Object
     if g.password == word {
         return with_registration(o, free_registration());
     }
-    with_password(o, place_of(o, word), Password { word: 0, mode: 0 })
+    without_password(o, place_of(o, word))
 }
 
 // Another registration.

@@ -38,6 +38,19 @@ distinct-set w (y ∷ l) (suc i) n h =
     other : eqb y 0 ≡ false → eqb w y ≡ false
     other z = ne-eqb w y (λ e. eqb-false y w (not-true _ (and-left (not (eqb y w)) _ (unless (eqb w 0) _ n (rw e z)))) (sym e))
 
+absent-from : (w : ℕ) (l : List ℕ) → ((j : ℕ) → j < length l → getD l j 0 ≡ w → ⊥) → absent w l ≡ true
+unfolding absent
+absent-from w [] h = refl
+absent-from w (x ∷ l) h = and-both (ap not (ne-eqb x w (h 0 (omega arith)))) (absent-from w l (λ j m. h (suc j) (omega arith)))
+
+-- where of two places with the same number the number is 0, none stands twice
+pub pairs-distinct : (l : List ℕ) → ((i j : ℕ) → i < j → j < length l → getD l i 0 ≡ getD l j 0 → getD l i 0 ≡ 0) → distinct l ≡ true
+unfolding distinct
+pairs-distinct [] h = refl
+pairs-distinct (x ∷ l) h =
+    and-both (or-unless (eqb x 0) _ (λ z. absent-from x l (λ j m e. eqb-false x 0 z (h 0 (suc j) (omega arith) (omega arith) (sym e)))))
+    (pairs-distinct l (λ i j a b e. h (suc i) (suc j) (omega arith) (omega arith) e))
+
 absent-at : (w : ℕ) (l : List ℕ) (j : ℕ) → j < length l → absent w l ≡ true → getD l j 0 ≡ w → ⊥
 unfolding absent
 absent-at w [] j m h = absurd (omega arith)

@@ -15,7 +15,8 @@ use Rattle.state.specs.Laws.Extent.{zero-not, covers-parts}
 use Rattle.state.specs.Laws.Lookup.{none-answered, Stands, pages-stands, some-stands, Single, covers-standing, covers-single, base-standing, base-single}
 use Rattle.soundness.specs.Sound.{objectOk, estateOk, sound}
 use Rattle.soundness.specs.Laws.ObjectParts.{ObjectBounds, object-parts}
-use Rattle.soundness.specs.Laws.StateParts.{estate-parts, StateSound, state-parts, estate-apart}
+use Rattle.soundness.specs.Laws.StateParts.{estate-parts, StateSound, state-parts}
+use Rattle.soundness.specs.Laws.Order.{estate-apart}
 use Rattle.state.specs.declared.Object.{Object}
 use Rattle.state.specs.declared.Estate.{Estate}
 use Rattle.state.specs.declared.State.{State}
@@ -35,7 +36,7 @@ module _ (test : Object → Bool) (single : Single test) (e : Estate) (d k : ℕ
 
       go : (placeWhere test e ≡ k) ⊎ (placeWhere test e ≡ k → ⊥) → placeWhere test e ≡ k
       go (inl w) = w
-      go (inr ne) = absurd (single _ _ (rw (s .there) (s .passes)) h (estate-apart e d (placeWhere test e) k ok (s .within) l ne))
+      go (inr ne) = absurd (single _ _ (rw (s .there) (s .passes)) h (estate-apart e d ok (placeWhere test e) k (s .within) l ne))
 
   -- and so is the object
   pub only-object : objectWhere test e ≡ objectAt e k

@@ -1,20 +1,20 @@
 -- The soundness of an object and its registration taken apart and put together.
 use Prim.Native.Nat.{ℕ, _+_, _*_, _/_, _<_, _≤_}
 use mathlib.Core.Path.{_≡_, refl, ap, _∙_}
-use mathlib.Core.Bool.{true}
+use mathlib.Core.Bool.{true, not}
 use mathlib.Core.Logic.{⊎-elim}
 use native.Mathlib.Omega.{arith}
 use lib.Dec.{leb, eqb}
 use lib.ListN.{length, getD-replicate}
-use borrow.Author.Tests.{leb-true, leb-false, le-leb, lt-leb, ltb-true, lt-ltb, eqb-true, eq-eqb}
-use Rattle.bounded.specs.Bools.{and-left, and-right, and-both, cond-ind, same-or-not}
+use borrow.Author.Tests.{leb-true, leb-false, le-leb, lt-leb, ltb-true, lt-ltb, eqb-true, eq-eqb, not-false}
+use Rattle.bounded.specs.Bools.{and-left, and-right, and-both, or-unless, cond-ind, same-or-not}
 use Rattle.bounded.specs.Every.{below, below-at, below-all}
 use Rattle.rights.specs.Modes.{legal}
 use Rattle.state.specs.Places.{noPassword, freeRegistration, freeObject, passwordAt, entryAt}
 use Rattle.state.specs.Extent.{free, covers, liesIn}
 use Rattle.state.specs.Laws.Extent.{zero-not, not-zero, covers-parts}
-use Rattle.soundness.specs.Sound.{passwordOk, absent, distinct, allPasswords, blank, entryOk, registrationOk, withoutPasswords, objectBounds, objectOk}
-use Rattle.soundness.specs.Laws.Tests.{all3, all4, unused-test, used-test}
+use Rattle.soundness.specs.Sound.{passwordOk, absent, distinct, allPasswords, passwordNext, passwordsOk, blank, entryOk, registrationOk, withoutPasswords, objectBounds, objectOk}
+use Rattle.soundness.specs.Laws.Tests.{all3, unused-test, used-test}
 use Rattle.soundness.specs.Laws.Zeros.{blank-none, zero-password, zero-registration, zero-object}
 use Rattle.state.specs.declared.Object.{Object}
 
@@ -77,6 +77,7 @@ pub record ObjectBounds (o : Object) (d : ℕ) : Type 0 where
   pub to : o .base + o .pages ≤ 32 * d + 32
   pub mode : (k : ℕ) → k < 4 → 0 < passwordAt o k .word → legal (passwordAt o k .mode) ≡ true
   pub vacant : (k : ℕ) → k < 4 → passwordAt o k .word ≡ 0 → passwordAt o k .mode ≡ 0
+  pub next : (k : ℕ) → k < 3 → passwordAt o k .word ≡ 0 → passwordAt o (k + 1) .word ≡ 0
   pub different : distinct (allPasswords o) ≡ true
   pub registration : registrationOk o ≡ true
   pub account : o .account < 4
@@ -86,9 +87,11 @@ unfolding passwordOk
 vacant-mode o h k l e = eqb-true _ 0 (unused-test (eqb (passwordAt o k .word) 0) _ _ (below-at 4 (passwordOk o) h k l) (eq-eqb _ 0 e))
 
 bounds-parts : (o : Object) (d : ℕ) → objectBounds o d ≡ true → 0 < o .pages → ObjectBounds o d
-unfolding objectBounds liesIn passwordOk
+unfolding objectBounds passwordsOk liesIn passwordOk passwordNext
 bounds-parts o d h p =
-    let (each, different, registration, rest) = all4 _ _ _ _ h in
+    let (passwords, registration, rest) = all3 _ _ _ h in
+    let each = and-left (below 4 (passwordOk o)) _ passwords in
+    let placed = and-right (below 4 (passwordOk o)) _ passwords in
     let bound = used-test (free o) _ _ rest (zero-not _ p) in
     let lies = and-left (liesIn o d) _ bound in
     record {
@@ -96,13 +99,14 @@ bounds-parts o d h p =
       to = leb-true _ _ (and-right (leb (32 * d) (o .base)) _ lies);
       mode = λ k l q. used-test (eqb (passwordAt o k .word) 0) _ _ (below-at 4 (passwordOk o) each k l) (zero-not _ q);
       vacant = vacant-mode o each;
-      different = different;
+      next = λ k l e. eqb-true _ 0 (rw (eq-eqb _ 0 e) at (below-at 3 (passwordNext o) (and-left (below 3 (passwordNext o)) _ placed) k l));
+      different = and-right (below 3 (passwordNext o)) _ placed;
       registration = registration;
       account = ltb-true _ 4 (and-right (liesIn o d) _ bound);
     }
 
 parts-bounds : (o : Object) (d : ℕ) → ObjectBounds o d → 0 < o .pages → objectBounds o d ≡ true
-unfolding objectBounds liesIn passwordOk
+unfolding objectBounds passwordsOk liesIn passwordOk passwordNext
 parts-bounds o d h p =
     rw (zero-not _ p)
     (and-both
@@ -111,15 +115,19 @@ parts-bounds o d h p =
     (below-all 4 (passwordOk o)
     (λ k l. cond-ind (λ b. b ≡ true) (eqb (passwordAt o k .word) 0) _ _ (λ e. eq-eqb _ 0 (h .vacant k l (eqb-true _ 0 e)))
     (λ e. h .mode k l (not-zero _ e))))
-    (h .different))
+    (and-both
+    (below-all 3 (passwordNext o)
+    (λ k l. or-unless (not (eqb (passwordAt o k .word) 0)) _ (λ e. eq-eqb _ 0 (h .next k l (eqb-true _ 0 (not-false _ e))))))
+    (h .different)))
     (h .registration))
     (and-both (and-both (le-leb _ _ (h .from)) (le-leb _ _ (h .to))) (lt-ltb _ 4 (h .account))))
 
 zeros : (o : Object) (d : ℕ) → length (o .passwords) ≡ 4 → length (o .registration .entries) ≡ 4 → objectBounds o d ≡ true → o .pages ≡ 0
     → o ≡ freeObject
-unfolding objectBounds withoutPasswords
+unfolding objectBounds passwordsOk withoutPasswords
 zeros o d l m h e =
-    let (each, different, registration, rest) = all4 _ _ _ _ h in
+    let (passwords, registration, rest) = all3 _ _ _ h in
+    let each = and-left (below 4 (passwordOk o)) _ passwords in
     let zero = unused-test (free o) _ _ rest (eq-eqb _ 0 e) in
     let (base, without, account) = all3 _ _ _ zero in
     let word : (k : ℕ) → k < 4 → passwordAt o k .word ≡ 0 =
@@ -129,7 +137,7 @@ zeros o d l m h e =
 
 -- a free place is sound in each estate
 pub free-sound : (d : ℕ) → objectOk freeObject d ≡ true
-unfolding objectOk objectBounds passwordOk distinct absent registrationOk entryOk blank withoutPasswords below
+unfolding objectOk objectBounds passwordsOk passwordOk passwordNext distinct absent registrationOk entryOk blank withoutPasswords below
 free-sound d = refl
 
 -- a place for an object: an object that keeps its bounds, or all zero

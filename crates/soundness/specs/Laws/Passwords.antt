@@ -13,10 +13,8 @@ use Rattle.bounded.specs.Place.{found-some}
 use Rattle.rights.specs.Modes.{legal}
 use Rattle.state.specs.Places.{passwordAt}
 use Rattle.state.specs.Lookup.{placeOf, ordinaryMode, modeOf, hasPassword}
-use Rattle.state.specs.Same.{SameObject}
 use Rattle.state.specs.Laws.Extent.{zero-not}
 use Rattle.state.specs.Laws.Passwords.{shows, Ordinary, ordinary-some, has-parts, ordinary-mode, mode-has}
-use Rattle.state.specs.Laws.Same.{mode-same, tests-same}
 use Rattle.soundness.specs.Sound.{distinct, allPasswords}
 use Rattle.soundness.specs.Laws.Distinct.{distinct-at}
 use Rattle.soundness.specs.Laws.ObjectParts.{ObjectBounds}
@@ -35,7 +33,7 @@ ordinary-legal o word d b r p = rw (ordinary-mode o word r p) (b .mode (placeOf 
 twice : (o : Object) (word i j : ℕ) → distinct (allPasswords o) ≡ true → 0 < word → i < j → j < 5 → getD (allPasswords o) i 0 ≡ word → getD (allPasswords o) j 0 ≡ word → ⊥
 twice o word i j h p l m a b = omega (arith, distinct-at (allPasswords o) i j l m h (a ∙ sym b))
 
-word-at : (o : Object) (k : ℕ) → k < 4 → getD (allPasswords o) (suc k) 0 ≡ passwordAt o k .word
+pub word-at : (o : Object) (k : ℕ) → k < 4 → getD (allPasswords o) (suc k) 0 ≡ passwordAt o k .word
 word-at o k l = tabulate-at 4 (λ k. passwordAt o k .word) k 0 l
 
 -- where no password stands twice, the place of an ordinary one is its only place
@@ -68,9 +66,3 @@ has-exactly o word d b = (λ h. mode (has-parts o word h), mode-has o word)
         cond-ind (λ n. 0 < n) (not (eqb word 0) && eqb (o .registration .password) word) 16 (ordinaryMode o word) (λ e. omega arith)
         (λ e. ⊎-elim (λ g. absurd (true≢false (sym (and-both (ap not (zero-not word (r .0))) (eq-eqb _ _ g)) ∙ e)))
         (λ q. legal-some _ (ordinary-legal o word d b q (r .0))) (r .1))
-
--- the same object has the same passwords, where both keep their bounds
-pub has-same : {o o′ : Object} (word d d′ : ℕ) → ObjectBounds o d → ObjectBounds o′ d′ → SameObject o o′ → hasPassword o word ≡ hasPassword o′ word
-has-same {o} {o′} word d d′ b b′ m =
-    tests-same _ _ (λ h. has-exactly o′ word d′ b′ .1 (rw (mode-same m word) at (has-exactly o word d b .0 h)))
-    (λ h. has-exactly o word d b .1 (rw (mode-same m word) (has-exactly o′ word d′ b′ .0 h)))

@@ -1,17 +1,14 @@
 -- The soundness of an estate and of the whole state taken apart and put together.
-use Prim.Native.Nat.{ℕ, _<_, _≤_}
-use mathlib.Core.Path.{_≡_, refl}
-use mathlib.Core.Bool.{Bool, true, false}
-use native.Mathlib.Omega.{arith}
-use lib.Dec.{leb, ltb}
+use Prim.Native.Nat.{ℕ, _+_, _<_, _≤_}
+use mathlib.Core.Path.{_≡_}
+use mathlib.Core.Bool.{true}
+use lib.Dec.{leb}
 use lib.ListN.{length}
-use borrow.Author.Tests.{leb-true, le-leb, ltb-true, ltb-false, eqb-true, eq-eqb}
-use Rattle.bounded.specs.Bools.{and-left, and-right, and-both, guarded, guard}
+use borrow.Author.Tests.{leb-true, le-leb, eqb-true, eq-eqb}
+use Rattle.bounded.specs.Bools.{and-left, and-right, and-both}
 use Rattle.bounded.specs.Every.{below, below-at, below-all}
 use Rattle.state.specs.Places.{objectAt, estateAt, domainAt, limitAt, setAt}
-use Rattle.state.specs.Extent.{apart}
-use Rattle.state.specs.Laws.Extent.{apart-sym}
-use Rattle.soundness.specs.Sound.{objectOk, apartAt, apartFrom, estateOk, domainOk, soundAt, accountsOk, sound}
+use Rattle.soundness.specs.Sound.{objectOk, follows, orderedAt, estateOk, domainOk, soundAt, accountsOk, sound}
 use Rattle.soundness.specs.Laws.Tests.{all3, all4}
 use Rattle.state.specs.declared.Estate.{Estate}
 use Rattle.state.specs.declared.Accounts.{Accounts}
@@ -21,25 +18,24 @@ use Rattle.state.specs.declared.State.{State}
 pub record EstateSound (e : Estate) (d : ℕ) : Type 0 where
   pub long : length (e .objects) ≡ 8
   pub object : (k : ℕ) → k < 8 → objectOk (objectAt e k) d ≡ true
-  pub clear : (i j : ℕ) → i < 8 → j < i → apart (objectAt e j) (objectAt e i) ≡ true
+  pub order : (k : ℕ) → k < 7 → follows (objectAt e k) (objectAt e (k + 1)) ≡ true
 
 -- an estate that passes the test has these bounds
 pub estate-parts : (e : Estate) (d : ℕ) → estateOk e d ≡ true → EstateSound e d
-unfolding estateOk apartFrom apartAt
+unfolding estateOk orderedAt
 estate-parts e d h =
-    let (long, objects, clear) = all3 _ _ _ h in
+    let (long, objects, order) = all3 _ _ _ h in
     record {
       long = eqb-true _ 8 long;
       object = below-at 8 (λ k. objectOk (objectAt e k) d) objects;
-      clear = λ i j l m. guarded i j _ (below-at 8 (apartAt e i) (below-at 8 (apartFrom e) clear i l) j (omega arith)) m;
+      order = below-at 7 (orderedAt e) order;
     }
 
 -- an estate with these bounds passes the test
 pub parts-estate : (e : Estate) (d : ℕ) → EstateSound e d → estateOk e d ≡ true
-unfolding estateOk apartFrom apartAt
+unfolding estateOk orderedAt
 parts-estate e d h =
-    and-both (and-both (eq-eqb _ 8 (h .long)) (below-all 8 (λ k. objectOk (objectAt e k) d) (h .object)))
-    (below-all 8 (apartFrom e) (λ i l. below-all 8 (apartAt e i) (λ j m. guard i j _ (h .clear i j l))))
+    and-both (and-both (eq-eqb _ 8 (h .long)) (below-all 8 (λ k. objectOk (objectAt e k) d) (h .object))) (below-all 7 (orderedAt e) (h .order))
 
 -- the accounts
 pub record AccountsSound (x : Accounts) : Type 0 where
@@ -97,14 +93,3 @@ parts-state s h =
     (and-both (and-both (eq-eqb _ 4 (h .long-estates)) (eq-eqb _ 4 (h .long-domains)))
     (below-all 4 (soundAt s) (λ d l. and-both (h .estate d l) (h .domain d l))))
     (h .accounts)
-
--- the objects at two places of a sound estate are apart
-pub estate-apart : (e : Estate) (d i j : ℕ) → estateOk e d ≡ true → i < 8 → j < 8 → (i ≡ j → ⊥) → apart (objectAt e i) (objectAt e j) ≡ true
-estate-apart e d i j h l m ne = go (ltb i j) refl
-  where
-    q : EstateSound e d
-    q = estate-parts e d h
-
-    go : (b : Bool) → ltb i j ≡ b → apart (objectAt e i) (objectAt e j) ≡ true
-    go true t = q .clear j i m (ltb-true i j t)
-    go false t = apart-sym _ _ (q .clear i j l (omega (arith, ltb-false i j t)))

@@ -10,7 +10,7 @@ use Rattle.bounded.specs.Place.{PlaceFound, PlaceMissing, search-cases, found-b
 use Rattle.bounded.specs.Search.{first}
 use Rattle.state.specs.Places.{noObject, noEstate, freeObject, objectAt, estateOf}
 use Rattle.state.specs.Extent.{free, covers, apart}
-use Rattle.state.specs.Lookup.{hasBase, objectWhere, placeWhere, covering, based, objectBased, freePlace}
+use Rattle.state.specs.Lookup.{hasBase, objectWhere, placeWhere, covering, based, objectBased}
 use Rattle.state.specs.Laws.Extent.{not-zero, covers-parts, parts-covers, apart-covers}
 use Rattle.state.specs.declared.Object.{Object}
 use Rattle.state.specs.declared.Estate.{Estate}
@@ -102,12 +102,7 @@ found-or-free test e =
 pub none-answered : (test : Object → Bool) → Standing test → (e : Estate) → objectWhere test e .pages ≡ 0 → objectWhere test e ≡ freeObject
 none-answered test pages e z = ⊎-elim (λ f. absurd (omega (arith, pages _ (f .passes)))) (λ q. q) (found-or-free test e)
 
--- the first free place is one
-pub first-free : (e : Estate) → freePlace e < 8 → free (objectAt e (freePlace e)) ≡ true
-unfolding freePlace
-first-free e room = let g = place-stands free e room in rw (g .there) (g .passes)
-
--- and has the base
+-- an object found by its base has the base
 pub based-base : (t : Table) (base : ℕ) → 0 < objectBased t base .pages → objectBased t base .base ≡ base
 unfolding objectBased based
 based-base t base p = base-same base (objectBased t base) (pages-stands (hasBase base) (estateOf t base) p .passes)
