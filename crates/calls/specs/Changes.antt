@@ -7,7 +7,7 @@ use lib.ListN.{length, set, take, drop, replicate}
 use Rattle.bounded.specs.Fill.{tabulate}
 use Rattle.state.specs.Places.{slotAt}
 use Rattle.state.specs.Lookup.{placeBased}
-use Rattle.state.specs.Update.{mergeList, onlyList, withActive, withObject, withEstate, withDomain}
+use Rattle.state.specs.Update.{mergeList, onlyList, withActive, withObject, removeObject, withEstate, withDomain}
 use Rattle.state.specs.declared.Capability.{Capability}
 use Rattle.state.specs.declared.Registration.{Registration}
 use Rattle.state.specs.declared.Object.{Object}
@@ -15,7 +15,7 @@ use Rattle.state.specs.declared.Estate.{Estate}
 use Rattle.state.specs.declared.Frame.{Frame}
 use Rattle.state.specs.declared.Domain.{Domain}
 use Rattle.calls.specs.Arguments.{entryOf}
-use Rattle.calls.specs.View.{World, View, estateFound}
+use Rattle.calls.specs.View.{World, View, objectOf, estateFound}
 use Rattle.calls.specs.declared.Presented.{Presented}
 use Rattle.calls.specs.declared.Entries.{Entries}
 use Rattle.calls.specs.declared.Fields.{Fields}
@@ -48,8 +48,13 @@ registration k l es =
     record { password = k; list = capability l; count = es .count; entries = tabulate 4 (λ i. cond (ltb i (es .count)) (entryOf es i) 0) }
 
 -- the object with the base becomes another
-abbrev pub becomes : ℕ → View → Object → List Change
-becomes b v o = estate (b / 32) (withObject (estateFound (v .found)) (placeBased (estateFound (v .found)) b) o) ∷ []
+abbrev pub becomes : ℕ → (Object → Object) → View → List Change
+becomes b after v =
+    estate (b / 32) (withObject (estateFound (v .found)) (placeBased (estateFound (v .found)) b) (after (objectOf (v .found)))) ∷ []
+
+-- the object with the base goes
+abbrev pub goes : ℕ → View → List Change
+goes b v = estate (b / 32) (removeObject (estateFound (v .found)) (placeBased (estateFound (v .found)) b)) ∷ []
 
 -- the active frame of the caller becomes another
 abbrev pub active : ℕ → View → Frame → List Change

@@ -11,9 +11,7 @@ pub mod Fit
 pub mod Sound
 pub mod Plan
 pub mod Booted
-pub mod Agree
 pub mod Viewed
-pub mod Places
 pub mod Behind
 pub mod Zeroed
 pub mod Parts

@@ -8,8 +8,9 @@ use lib.Dec.{ltb, eqb}
 use lib.ListN.{length}
 use Rattle.state.specs.Places.{estateAt, estateOf, domainAt}
 use Rattle.state.specs.Lookup.{placeBased}
-use Rattle.state.specs.Update.{withObject, withEstate, withDomain}
+use Rattle.state.specs.Update.{withObject, removeObject, withEstate, withDomain}
 use Rattle.state.specs.declared.Object.{Object}
+use Rattle.state.specs.declared.Estate.{Estate}
 use Rattle.state.specs.declared.Table.{Table}
 use Rattle.state.specs.declared.Frame.{Frame}
 use Rattle.state.specs.declared.Domain.{Domain}
@@ -44,11 +45,16 @@ pub record Entered (words : List ℕ) (d : ℕ) : Type 0 where
 abbrev pub unaltered : Table → Refusal → Altered
 unaltered t why = record { answer = Answer·Refused why; place = 0; estate = estateAt t 0 }
 
--- where the object with a base becomes another, its estate with that
+-- by a done one the estate in which the page lies, as it is then
+abbrev pub altered : Table → ℕ → Estate → Altered
+altered t b e = cond (ltb b 128) (record { answer = Done 0; place = b / 32; estate = e }) (unaltered t OutOfRange)
+
+-- where the object with a base becomes another, and where it goes
 abbrev pub becoming : Table → ℕ → Object → Altered
-becoming t b o =
-    cond (ltb b 128) (record { answer = Done 0; place = b / 32; estate = withObject (estateOf t b) (placeBased (estateOf t b) b) o })
-    (unaltered t OutOfRange)
+becoming t b o = altered t b (withObject (estateOf t b) (placeBased (estateOf t b) b) o)
+
+abbrev pub going : Table → ℕ → Altered
+going t b = altered t b (removeObject (estateOf t b) (placeBased (estateOf t b) b))
 
 abbrev pub moved : Domain → ℕ → Moved
 moved m value = record { answer = Done value; fields = noFields; domain = m }

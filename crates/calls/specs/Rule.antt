@@ -9,7 +9,7 @@ use Rattle.state.specs.declared.Frame.{Frame}
 use Rattle.judge.specs.declared.Target.the-variants.{Address, Base}
 use Rattle.calls.specs.Answers.{noFields}
 use Rattle.calls.specs.View.{Want, nothing, rights, Charge, View, Check, objectOf}
-use Rattle.calls.specs.Changes.{Change, becomes, active}
+use Rattle.calls.specs.Changes.{Change, active}
 use Rattle.calls.specs.declared.Presented.{Presented}
 use Rattle.calls.specs.declared.Fields.{Fields}
 
@@ -86,10 +86,9 @@ abbrev pub access : Bool → ℕ → ℕ → (View → ℕ) → List Change → 
 access range a r value changes touch = says range always (rights (Address a) r) none none (λ d v. []) value untold (λ d v. changes) touch
 
 -- a call on the object with a base; where no object has that base, nothing is granted
-abbrev pub onObject : Bool → (Frame → Bool) → ℕ → ℕ → Option Presented → (Object → List Check) → (Object → Object) → Rule
-onObject range unlocked b r presents rest after =
-    says range unlocked (rights (Base b) r) presents none (λ d v. rest (objectOf (v .found))) valueless untold
-    (λ d v. becomes b v (after (objectOf (v .found)))) (touchesObject b)
+abbrev pub onObject : Bool → (Frame → Bool) → ℕ → ℕ → Option Presented → (Object → List Check) → (View → List Change) → Rule
+onObject range unlocked b r presents rest changes =
+    says range unlocked (rights (Base b) r) presents none (λ d v. rest (objectOf (v .found))) valueless untold (λ d. changes) (touchesObject b)
 
 -- a call on the slots and locks of the caller's frame
 abbrev pub onFrame : Bool → (Frame → Bool) → Option Presented → (Frame → List Check) → (Frame → Frame) → Touch → Rule

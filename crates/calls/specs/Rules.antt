@@ -5,15 +5,15 @@ use mathlib.Core.List.{List, [], _∷_, _++_}
 use mathlib.Core.Option.{Option, none, some}
 use lib.Dec.{leb, ltb, eqb}
 use Rattle.rights.specs.Modes.{legal, read, write, execute, destroy, pdx, owner}
-use Rattle.state.specs.Places.{freeObject, estateAt, domainAt}
+use Rattle.state.specs.Places.{estateAt, domainAt}
 use Rattle.state.specs.Extent.{covers, liesIn}
-use Rattle.state.specs.Lookup.{freePlace, freePasswordPlace, hasPassword}
-use Rattle.state.specs.Update.{insertSlot, removeSlot, lockSlot, saveDomain, restoreDomain, newObject, withRegistration, addPassword, dropPassword, withObject}
+use Rattle.state.specs.Lookup.{hasRoom, freePasswordPlace, hasPassword}
+use Rattle.state.specs.Update.{insertSlot, removeSlot, lockSlot, saveDomain, restoreDomain, newObject, withRegistration, addPassword, dropPassword, insertObject}
 use Rattle.state.specs.declared.Frame.{Frame}
 use Rattle.judge.specs.declared.Target.the-variants.{Address}
 use Rattle.calls.specs.View.{Want, nothing, rights, Charge, World, Judging, View, Check, check, search, passes, permitted, withinLimit, isSome, objectOf, wordOf, pairOf}
 use Rattle.calls.specs.Arguments.{entriesAll, runFree, isEntry}
-use Rattle.calls.specs.Changes.{frameFields, Change, word, zeros, estate, domain, capability, registration, entered}
+use Rattle.calls.specs.Changes.{frameFields, Change, word, zeros, estate, domain, capability, registration, becomes, goes, entered}
 use Rattle.calls.specs.Rule.{Touch, touchesNothing, touchesWord, touchesSlots, Rule, says, always, unlessWhole, valueless, untold, inStore, isPage, isAccount, access, onObject, onFrame}
 use Rattle.calls.specs.declared.Call.{Call}
 use Rattle.calls.specs.declared.Call.the-variants.{OnStore, OnObject, OnDomain}
@@ -39,25 +39,25 @@ accessRule (Lookup a r) = access (inStore a && ltb 0 r && ltb r 32) a r (λ v. p
 
 abbrev objectRule : ObjectCall → Rule
 -- CR: one object more in the caller's estate, with one password in the owner's mode and its words zeroed, its pages charged to an account
--- (document 02, T-05); the place is the first free one, the program's own choice
+-- (document 02, T-05), at its place by rising base (T-06)
 objectRule (Create p n k a) =
     says (isPage p && ltb 0 n && leb n 32 && not (eqb k 0) && isAccount a) always nothing none (some (record { account = a; pages = n }))
     (λ d v. check NoRun (liesIn (newObject p n k a) d && runFree (v .estate) (newObject p n k a))
     ∷ check NotPermitted (v .permits)
     ∷ check LimitPassed (v .fits)
-    ∷ check Full (ltb (freePlace (v .estate)) 8)
+    ∷ check Full (hasRoom (v .estate))
     ∷ [])
     valueless untold
-    (λ d v. estate d (withObject (v .estate) (freePlace (v .estate)) (newObject p n k a)) ∷ zeros (64 * p) (64 * n) ∷ []) touchesNothing
--- DL: the object goes, its words stay
-objectRule (Delete b) = onObject (isPage b) always b destroy none (λ o. []) (λ o. freeObject)
--- AP: a password more; the whole lock stops it (document 02, T-03)
+    (λ d v. estate d (insertObject (v .estate) (newObject p n k a)) ∷ zeros (64 * p) (64 * n) ∷ []) touchesNothing
+-- DL: the object goes and those behind it close the gap (T-06), its words stay
+objectRule (Delete b) = onObject (isPage b) always b destroy none (λ o. []) (goes b)
+-- AP: a password more, behind the last (T-06); the whole lock stops it (document 02, T-03)
 objectRule (AddPassword b k m) =
     onObject (isPage b && not (eqb k 0) && legal m) unlessWhole b owner none
     (λ o. check HasPassword (not (hasPassword o k)) ∷ check Full (ltb (freePasswordPlace o) 4) ∷ [])
-    (λ o. addPassword o k m)
--- DP: a password goes, or the registration that has it
-objectRule (DropPassword b k) = onObject (isPage b) always b owner none (λ o. check Missing (hasPassword o k) ∷ []) (λ o. dropPassword o k)
+    (becomes b (λ o. addPassword o k m))
+-- DP: a password goes and the younger ones close the gap (T-06), or the registration that has it goes
+objectRule (DropPassword b k) = onObject (isPage b) always b owner none (λ o. check Missing (hasPassword o k) ∷ []) (becomes b (λ o. dropPassword o k))
 -- RG: the object becomes a procedure, with 1 to 4 entries inside it and a Clist capability that passes rule 1; the whole lock stops it
 -- (document 02, T-03)
 objectRule (Register b k l es) =
@@ -67,7 +67,7 @@ objectRule (Register b k l es) =
     ∷ check HasPassword (not (hasPassword o k))
     ∷ check Full (eqb (o .registration .password) 0)
     ∷ [])
-    (λ o. withRegistration o (registration k l es))
+    (becomes b (λ o. withRegistration o (registration k l es)))
 
 -- neither a lock before the slot nor the whole lock
 abbrev unlockedFrom : ℕ → Frame → Bool

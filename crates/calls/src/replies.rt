@@ -10,13 +10,14 @@ use state::Object;
 use state::State;
 use state::Table;
 use state::estates::place_based;
+use state::estates::remove_object;
 use state::estates::with_domain;
 use state::estates::with_estate;
 use state::estates::with_object;
 ghost use mathlib.Core.Path.{_≡_};
 ghost use Rattle.calls.specs.Answers.{refusalNumber, noFields};
 ghost use Rattle.calls.specs.Step.{answeredWith};
-ghost use Rattle.calls.specs.Parts.{unaltered, becoming, moved, stays, withAltered, withMoved};
+ghost use Rattle.calls.specs.Parts.{unaltered, becoming, going, moved, stays, withAltered, withMoved};
 
 // The number of a refusal.
 pub fn refusal_number(why: Refusal) -> u64
@@ -107,6 +108,22 @@ pub fn becomes(t: Table, base: u64, o: Object) -> Altered
         answer: Answer::Done(0),
         place: place,
         estate: with_object(e, place_based(e, base), o),
+    }
+}
+
+// A done call on objects, by which the object with the base is gone.
+pub fn goes(t: Table, base: u64) -> Altered
+    ensures { λ r. ⌜ r ≡ going t base ⌝ }
+{
+    if 128 <= base {
+        return unaltered(t, Refusal::OutOfRange);
+    }
+    let place = (base / 32) as usize;
+    let e = t.estates[place];
+    Altered {
+        answer: Answer::Done(0),
+        place: place,
+        estate: remove_object(e, place_based(e, base)),
     }
 }
 

@@ -4,5 +4,4 @@ mod Deciding
 pub mod Exactly
 pub mod Local
 pub mod Grant
-pub mod Places
 pub mod Behind

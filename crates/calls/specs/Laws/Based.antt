@@ -5,10 +5,8 @@ use mathlib.Core.Bool.{true}
 use mathlib.Core.List.{List, [], _∷_}
 use mathlib.Core.Option.{Option, none, some}
 use lib.Dec.{ltb}
-use Rattle.state.specs.Places.{noAccounts, estateOf}
-use Rattle.state.specs.Lookup.{placeBased}
-use Rattle.state.specs.Update.{withObject}
-use Rattle.state.specs.declared.Object.{Object}
+use Rattle.state.specs.Places.{noAccounts}
+use Rattle.state.specs.declared.Estate.{Estate}
 use Rattle.state.specs.declared.Table.{Table}
 use Rattle.state.specs.declared.Frame.{Frame}
 use Rattle.state.specs.declared.Domain.{Domain}
@@ -22,7 +20,7 @@ use Rattle.calls.specs.Answers.{noFields}
 use Rattle.calls.specs.Changes.{estate}
 use Rattle.calls.specs.Rules.{rule, inRange, unlocked, wanted, presented, value, fields, late, changes}
 use Rattle.calls.specs.Step.{world}
-use Rattle.calls.specs.Parts.{unaltered, becoming, Alters}
+use Rattle.calls.specs.Parts.{unaltered, altered, Alters}
 use Rattle.calls.specs.Laws.Parts.{parts, viewOf, alters-late, alters-done}
 use Rattle.calls.specs.declared.Call.the-variants.{OnObject}
 use Rattle.calls.specs.declared.ObjectCall.{ObjectCall}
@@ -67,10 +65,9 @@ module _ (t : Table) (x : Accounts) (d : ℕ) (f : Frame) (words : List ℕ) (c 
       → Alters t x d f words c y words
   based-late l h = alters-late t x d f words c n u (λ m q. l _ (sees m q)) h
 
-  -- done: the object becomes another
-  pub based-done : {y : Altered} (o : Object) → ltb b 128 ≡ true → ((v : View) → Sees t words c b j v → firstFailing (late d (OnObject c) v) ≡ none)
-      → ((v : View) → Sees t words c b j v → changes d (OnObject c) v ≡ estate (b / 32) (withObject (estateOf t b) (placeBased (estateOf t b) b) o) ∷ [])
-      → y ≡ becoming t b o → Alters t x d f words c y words
-  based-done o i l k h =
+  -- done: its estate becomes another
+  pub based-done : {y : Altered} (z : Estate) → ltb b 128 ≡ true → ((v : View) → Sees t words c b j v → firstFailing (late d (OnObject c) v) ≡ none)
+      → ((v : View) → Sees t words c b j v → changes d (OnObject c) v ≡ estate (b / 32) z ∷ []) → y ≡ altered t b z → Alters t x d f words c y words
+  based-done z i l k h =
       alters-done t x d f words c n u (λ m q. l _ (sees m q))
       (λ e m q s. rw (h, i, k _ (sees m q), plain c .zero, plain c .bare))

@@ -12,14 +12,14 @@ use Rattle.bounded.specs.Every.{below-at}
 use Rattle.bounded.specs.Fill.{tabulate-at}
 use Rattle.state.specs.Places.{objectAt, estateAt, domainAt}
 use Rattle.state.specs.Extent.{covers, apart, liesIn}
-use Rattle.state.specs.Lookup.{hasBase, covering, based, placeBased, objectBased, objectCovering, hasPassword}
-use Rattle.state.specs.Update.{newObject, withObject, withRegistration, mergeList, onlyList}
+use Rattle.state.specs.Lookup.{hasBase, covering, based, placeBased, objectBased, objectCovering, hasRoom, hasPassword}
+use Rattle.state.specs.Update.{newObject, withObject, insertObject, withRegistration, mergeList, onlyList}
 use Rattle.state.specs.Laws.Extent.{not-zero, SameRun, add-run, register-run, drop-run}
 use Rattle.soundness.specs.Sound.{objectOk, estateOk, frameOk, domainOk, sound}
-use Rattle.soundness.specs.Laws.Frames.{insert-sound, remove-sound, lock-sound, merge-sound, only-sound}
+use Rattle.soundness.specs.Laws.Frames.{insert-sound as insert-slot-sound, remove-sound as remove-slot-sound, lock-sound, merge-sound, only-sound}
 use Rattle.soundness.specs.Laws.Domains.{active-sound, save-sound, restore-sound}
 use Rattle.soundness.specs.Laws.Objects.{new-sound, add-sound, register-sound, drop-sound}
-use Rattle.soundness.specs.Laws.Estates.{object-apart-sound, found-run-sound, clear-sound}
+use Rattle.soundness.specs.Laws.Estates.{insert-sound, remove-sound, found-run-sound}
 use Rattle.soundness.specs.Laws.ObjectParts.{ObjectBounds, RegistrationSound, registration-parts}
 use Rattle.soundness.specs.Laws.DomainParts.{domain-parts}
 use Rattle.soundness.specs.Laws.StateParts.{state-parts}
@@ -95,18 +95,18 @@ create-range p n k a r =
       account = ltb-true a 4 (and-right (ltb p 128 && ltb 0 n && leb n 32 && not (eqb k 0)) _ r);
     }
 
--- a new object that lies in the estate and meets no other
-pub new-fit : (e : Estate) (d place p n k a : ℕ) → inRange (OnObject (Create p n k a)) ≡ true → estateOk e d ≡ true
-    → liesIn (newObject p n k a) d && runFree e (newObject p n k a) ≡ true
-    → (estateOk (withObject e place (newObject p n k a)) d ≡ true) × (p + n ≤ 32 * d + 32)
+-- a new object that lies in the estate and meets no other, where there is room
+pub new-fit : (e : Estate) (d p n k a : ℕ) → inRange (OnObject (Create p n k a)) ≡ true → estateOk e d ≡ true
+    → liesIn (newObject p n k a) d && runFree e (newObject p n k a) ≡ true → hasRoom e ≡ true
+    → (estateOk (insertObject e (newObject p n k a)) d ≡ true) × (p + n ≤ 32 * d + 32)
 unfolding liesIn runFree newObject inRange
-new-fit e d place p n k a range h t =
+new-fit e d p n k a range h t room =
     let o = newObject p n k a in
     let lies = and-left (liesIn o d) _ t in
     let to = leb-true _ _ (and-right (leb (32 * d) p) _ lies) in
     let clear = below-at 8 (λ j. apart (objectAt e j) o) (and-right (liesIn o d) _ t) in
     let r = create-range p n k a range in
-    (object-apart-sound e d place o (new-sound p n k a d (r .pages) (r .word) (r .account) (leb-true _ _ (and-left _ _ lies)) to) (λ j l ne. clear j l) h, to)
+    (insert-sound e d o (new-sound p n k a d (r .pages) (r .word) (r .account) (leb-true _ _ (and-left _ _ lies)) to) (r .pages) clear room h, to)
 
 -- a registration as it is asked for, with its entries inside the object
 registered-sound : (o : Object) (k : ℕ) (l : Presented) (es : Entries) → l .page < 128 → 0 < es .count → es .count ≤ 4
@@ -160,9 +160,9 @@ done-fit w d (OnStore (Write a x)) h p = (tt, tt)
 done-fit w d (OnStore (Execute a)) h p = tt
 done-fit w d (OnStore (Lookup a r)) h p = tt
 done-fit w d (OnObject (Create a n k x)) h p =
-    let r = new-fit (estateAt (w .state .table) d) d _ a n k x (p .range) (state-parts (w .state) h .estate d (p .domain)) (p .rest .0) in
+    let r = new-fit (estateAt (w .state .table) d) d a n k x (p .range) (state-parts (w .state) h .estate d (p .domain)) (p .rest .0) (p .rest .1 .1 .1 .0) in
     (r .0, (omega (arith, p .domain, r .1), tt))
-done-fit w d (OnObject (Delete b)) h p = (clear-sound _ (b / 32) _ (owned-estate w (domainAt (w .state) d .active) b 8 h (p .rest .0)), tt)
+done-fit w d (OnObject (Delete b)) h p = (remove-sound _ (b / 32) _ (owned-estate w (domainAt (w .state) d .active) b 8 h (p .rest .0)), tt)
 done-fit w d (OnObject (AddPassword b k m)) h p =
     let f = domainAt (w .state) d .active in
     let o = objectOf (owned w f b 15) in
@@ -187,11 +187,11 @@ done-fit w d (OnDomain (Insert i l)) h p =
     let m = domainAt (w .state) d in
     let ok = state-parts (w .state) h .domain d (p .domain) in
     let page = ltb-true _ 128 (and-right (ltb i 8) _ (p .range)) in
-    (active-sound m _ (insert-sound (m .active) i (capability l) (leb-true i _ (p .rest .1 .1 .0)) page (domain-parts m ok .active)) ok, tt)
+    (active-sound m _ (insert-slot-sound (m .active) i (capability l) (leb-true i _ (p .rest .1 .1 .0)) page (domain-parts m ok .active)) ok, tt)
 done-fit w d (OnDomain (Remove i)) h p =
     let m = domainAt (w .state) d in
     let ok = state-parts (w .state) h .domain d (p .domain) in
-    (active-sound m _ (remove-sound (m .active) i (leb-true _ i (and-left _ _ (p .unlocks))) (domain-parts m ok .active)) ok, tt)
+    (active-sound m _ (remove-slot-sound (m .active) i (leb-true _ i (and-left _ _ (p .unlocks))) (domain-parts m ok .active)) ok, tt)
 done-fit w d (OnDomain Get) h p = tt
 done-fit w d (OnDomain (Lock i)) h p =
     let m = domainAt (w .state) d in

@@ -5,14 +5,13 @@ use mathlib.Core.Bool.{true}
 use mathlib.Core.List.{List}
 use lib.ListN.{length, getD}
 use Rattle.state.specs.Places.{slotAt}
-use Rattle.state.specs.Laws.Same.{same-refl}
 use Rattle.state.specs.declared.Table.{Table}
 use Rattle.state.specs.declared.Frame.{Frame}
 use Rattle.clists.specs.Clist.{named, live, runWords}
 use Rattle.clists.specs.Laws.Ends.{reach}
-use Rattle.judge.specs.Search.{targeted}
+use Rattle.clists.specs.Laws.Lists.{list-same}
 use Rattle.judge.specs.Judged.{judged}
-use Rattle.judge.specs.Laws.Places.{same-judged}
+use Rattle.judge.specs.Laws.Local.{lists-local}
 use Rattle.judge.specs.declared.Target.{Target}
 
 -- Two stores that differ only behind the ends of the Clists of a frame's live slots: up to and with the pair that
@@ -26,5 +25,5 @@ pub record SameToEnds (t : Table) (words words′ : List ℕ) (f : Frame) : Type
 pub behind-ignored : (t : Table) (words words′ : List ℕ) (f : Frame) (target : Target) (wanted : ℕ) → SameToEnds t words words′ f
     → judged t words f target wanted ≡ judged t words′ f target wanted
 behind-ignored t words words′ f target wanted m =
-    same-judged t t words words′ f target wanted (m .long) (same-refl (targeted t target))
-    (λ k l. record { alive = refl; pages = λ a. refl; content = m .lists k l })
+    lists-local t t words words′ f target wanted refl
+    (λ k l. list-same t t words words′ f k (m .long) (λ n. record { alive = refl; pages = λ a. refl; content = m .lists k n })) (λ k i l b. refl)
