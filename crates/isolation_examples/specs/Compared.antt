@@ -107,7 +107,7 @@ module _ (G : Group) where
 
 estate-same : (e : Estate) → estateTest e e ≡ true
 unfolding estateTest
-estate-same e = below-all 8 _ (λ k l. numbers-same _)
+estate-same e = below-all 8 _ (λ k l. numbers-same (objectNumbers (objectAt e k)))
 
 inside-words : (G : Group) (w w′ : World) → SameInside G w w′ → wordsTest G w w′ ≡ true
 unfolding wordsTest
@@ -122,7 +122,7 @@ inside-estates G w w′ s = each-member G _ (λ d m. rw (s .estates d m) (estate
 
 inside-domains : (G : Group) (w w′ : World) → SameInside G w w′ → domainsTest G w w′ ≡ true
 unfolding domainsTest
-inside-domains G w w′ s = each-member G _ (λ d m. rw (s .domains d m) (numbers-same _))
+inside-domains G w w′ s = each-member G _ (λ d m. rw (s .domains d m) (numbers-same (domainNumbers (domainAt (w′ .state) d))))
 
 same-parts : (G : Group) (a a′ : List (List ℕ)) (w w′ : World) → a ≡ a′ → SameInside G w w′ → partsOf G a a′ w w′ ≡ allSame
 same-parts G a a′ w w′ e s =
