@@ -19,7 +19,7 @@ use Rattle.calls.specs.View.{World, Judging}
 use Rattle.calls.specs.Laws.Booted.{boot-sound}
 use Rattle.cases.specs.Nested.{domainNumbers, sameNumbers}
 use Rattle.isolation.specs.Group.{Group, member, insideAddress}
-use Rattle.isolation.specs.Runs.{Run, startOf, answers}
+use Rattle.isolation.specs.Runs.{Run, startOf}
 use Rattle.isolation.specs.Claim.{SameInside, Isolated}
 use Rattle.isolation_examples.specs.Tests.{traceOf, testing}
 use Rattle.isolation_examples.specs.Decided.{trace-answers, trace-last}
