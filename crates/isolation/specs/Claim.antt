@@ -1,40 +1,24 @@
--- Demand 3: one claim about two whole runs, by document 01, "Two runs and a group", and document 02, T-05.
-use Prim.Native.Nat.{ℕ, _<_}
+-- Demand 3: one claim about two whole runs, by document 01, "Two runs and a group", and document 02, T-05 and T-06.
+use Prim.Native.Nat.{ℕ}
 use mathlib.Core.Path.{_≡_}
 use mathlib.Core.Bool.{true}
 use lib.ListN.{getD}
-use Rattle.state.specs.Places.{slotAt, savedAt, domainAt}
-use Rattle.state.specs.Lookup.{objectBased}
-use Rattle.state.specs.Same.{SameObject}
-use Rattle.state.specs.declared.Frame.{Frame}
-use Rattle.state.specs.declared.Domain.{Domain}
+use Rattle.state.specs.Places.{estateAt, domainAt}
 use Rattle.calls.specs.Answers.{numberOf}
 use Rattle.calls.specs.View.{World}
 use Rattle.calls.specs.Boot.{homeOf, setOf}
 use Rattle.calls.specs.Runs.{final}
-use Rattle.isolation.specs.Group.{Group, member, insidePage, insideAddress}
+use Rattle.isolation.specs.Group.{Group, member, insideAddress}
 use Rattle.isolation.specs.Runs.{Run, bootResult, startOf, answers, membersCalls}
 use Rattle.isolation.specs.Premises.{Premises, AccountsApart, SameAccounts}
 
--- the same slots in use, in order, and the same locks
-pub record SameFrame (f f′ : Frame) : Type 0 where
-  pub count : f .count ≡ f′ .count
-  pub slot : (k : ℕ) → k < f .count → slotAt f k ≡ slotAt f′ k
-  pub locked : f .locked ≡ f′ .locked
-  pub whole : f .whole ≡ f′ .whole
-
--- the same active frame, and the same saved ones, in order
-pub record SameDomain (m m′ : Domain) : Type 0 where
-  pub active : SameFrame (m .active) (m′ .active)
-  pub depth : m .depth ≡ m′ .depth
-  pub saved : (k : ℕ) → k < m .depth → SameFrame (savedAt m k) (savedAt m′ k)
-
--- the same inside: every word of the members' estates, whether an object has it or not; every object there, wherever it is stored;
--- and every member's domain
+-- the same inside: every word of the members' estates, whether an object has it or not, their estates and their domains, each the same
+-- value. So there are the same objects, on the same accounts, with the same passwords in order of age and the same registrations, and the
+-- same slots, locks and saved domains; a sound estate or domain is no more than that (document 02, T-02 and T-06).
 pub record SameInside (G : Group) (w w′ : World) : Type 0 where
   pub words : (a : ℕ) → insideAddress G a ≡ true → getD (w .words) a 0 ≡ getD (w′ .words) a 0
-  pub objects : (base : ℕ) → insidePage G base ≡ true → SameObject (objectBased (w .state .table) base) (objectBased (w′ .state .table) base)
-  pub domains : (d : ℕ) → member G d ≡ true → SameDomain (domainAt (w .state) d) (domainAt (w′ .state) d)
+  pub estates : (d : ℕ) → member G d ≡ true → estateAt (w .state .table) d ≡ estateAt (w′ .state .table) d
+  pub domains : (d : ℕ) → member G d ≡ true → domainAt (w .state) d ≡ domainAt (w′ .state) d
 
 -- what is asked of two runs: both boots answered 0, the same members' home passwords and accounts, in neither an account that members and
 -- outsiders may charge, the same members' calls, and the premises in both

@@ -3,19 +3,15 @@ use mathlib.Core.Path.{_≡_, refl, sym, ap, _∙_}
 use mathlib.Core.Bool.{Bool}
 use mathlib.Core.List.{List, [], _∷_}
 use lib.ListN.{getD}
-use Rattle.state.specs.Places.{domainAt}
-use Rattle.state.specs.Lookup.{objectBased}
-use Rattle.state.specs.Laws.Same.{same-refl}
-use Rattle.state.specs.declared.Domain.{Domain}
-use Rattle.state.specs.declared.Frame.{Frame}
+use Rattle.state.specs.Places.{estateAt, domainAt}
 use Rattle.calls.specs.View.{World}
 use Rattle.calls.specs.Step.{worldOf}
 use Rattle.calls.specs.Runs.{Event, resultOf, final}
 use Rattle.isolation.specs.Group.{Group, member}
 use Rattle.isolation.specs.Runs.{startOf, answers, membersOnly}
 use Rattle.isolation.specs.Premises.{Along}
-use Rattle.isolation.specs.Claim.{SameFrame, SameDomain, SameInside, Isolation}
-use Rattle.isolation.specs.Part.{part, word-in, based-in, domain-in}
+use Rattle.isolation.specs.Claim.{SameInside, Isolation}
+use Rattle.isolation.specs.Part.{part, word-in, estate-in, domain-in}
 use Rattle.isolation.specs.Induction.{lastOf, answersOf, picked, Throughout, runs-alike}
 use Rattle.isolation.specs.Steps.{Asked, monitor, parted}
 use Rattle.isolation.specs.Start.{start-good, start-same}
@@ -46,25 +42,14 @@ module _ (G : Group) where
   asked [] w a = tt
   asked (e ∷ es) w a = (record { state = a .0; call = a .1 .0 }, asked es (worldOf (resultOf w e)) (a .1 .1))
 
--- a frame and a domain are the same as themselves
-frame-refl : (f : Frame) → SameFrame f f
-frame-refl f = record { count = refl; slot = λ k l. refl; locked = refl; whole = refl }
-
-domain-refl : (m : Domain) → SameDomain m m
-domain-refl m = record { active = frame-refl (m .active); depth = refl; saved = λ k l. frame-refl _ }
-
--- Worlds with the same part have the same words, objects and domains inside.
+-- Worlds with the same part have the same words, estates and domains inside.
 pub same-part : (G : Group) (w w′ : World) → part G w ≡ part G w′ → SameInside G w w′
 same-part G w w′ e =
     record {
       words = λ a i. sym (word-in G (w .words) a i) ∙ ap (λ x. getD (x .words) a 0) e ∙ word-in G (w′ .words) a i;
-      objects = λ b i.
-          let q : objectBased (w .state .table) b ≡ objectBased (w′ .state .table) b =
-          sym (based-in G (w .state .table) b i) ∙ ap (λ x. objectBased (x .state .table) b) e ∙ based-in G (w′ .state .table) b i in
-          rw q (same-refl _);
-      domains = λ d m.
-          let q : domainAt (w .state) d ≡ domainAt (w′ .state) d = sym (domain-in G w d m) ∙ ap (λ x. domainAt (x .state) d) e ∙ domain-in G w′ d m in
-          rw q (domain-refl _);
+      estates = λ d m.
+          sym (estate-in G (w .state .table) d m) ∙ ap (λ x. estateAt (x .state .table) d) e ∙ estate-in G (w′ .state .table) d m;
+      domains = λ d m. sym (domain-in G w d m) ∙ ap (λ x. domainAt (x .state) d) e ∙ domain-in G w′ d m;
     }
 
 -- THE MEMBERS OF A GROUP ARE ISOLATED FROM ITS OUTSIDERS.

@@ -47,18 +47,18 @@ pub broken : (p : Premise) (t t′ : Told) (parts : Parts) → Computed searched
     → membersCalls alone (runOf t) ≡ membersCalls alone (runOf t′) → differ parts ≡ true → Broken p t t′ parts
 broken p t t′ parts s c h = let s = by-computing alone t t′ (allBut p) parts s in record { shown = s; calls = c; failing = fails s h }
 
--- what differs: the answers alone; they and the words; they and the objects; everything
+-- what differs: the answers alone; they and the words; they and the estates; everything
 abbrev pub inAnswers : Parts
-inAnswers = record { answers = false; words = true; objects = true; domains = true }
+inAnswers = record { answers = false; words = true; estates = true; domains = true }
 
 abbrev pub inWords : Parts
-inWords = record { answers = false; words = false; objects = true; domains = true }
+inWords = record { answers = false; words = false; estates = true; domains = true }
 
-abbrev pub inObjects : Parts
-inObjects = record { answers = false; words = true; objects = false; domains = true }
+abbrev pub inEstates : Parts
+inEstates = record { answers = false; words = true; estates = false; domains = true }
 
 abbrev pub inAll : Parts
-inAll = record { answers = false; words = false; objects = false; domains = false }
+inAll = record { answers = false; words = false; estates = false; domains = false }
 
 -- a run with other home passwords
 abbrev pub housedAs : List ℕ → List Exchange → Told
@@ -95,10 +95,10 @@ registered = told (by 0 (OnObject (Create 1 1 21 0)) done ∷ by 1 (registers 32
 abbrev pub registered′ : Told
 registered′ = told (by 1 (registers 32 15 1 21 2048) (refuses 7) ∷ [])
 
-pub registered-needed : Broken held registered registered′ inObjects
+pub registered-needed : Broken held registered registered′ inEstates
 unfolding comparing
 registered-needed =
-    broken held registered registered′ inObjects (record { answered = refl; answered′ = refl; tested = refl; compared = refl }) refl refl
+    broken held registered registered′ inEstates (record { answered = refl; answered′ = refl; tested = refl; compared = refl }) refl refl
 
 -- the outsider has guessed the member's home password, and writes the pair into its own list
 abbrev pub guessed : List Exchange → Told
@@ -123,10 +123,10 @@ deleted = guessed (by 0 (OnObject (Delete 32)) done ∷ by 1 (OnStore (Read 2048
 abbrev pub deleted′ : Told
 deleted′ = told (by 1 (OnStore (Read 2048)) (0 ∷ 8207 ∷ []) ∷ [])
 
-pub deleted-needed : Broken granted deleted deleted′ inObjects
+pub deleted-needed : Broken granted deleted deleted′ inEstates
 unfolding comparing
 deleted-needed =
-    broken granted deleted deleted′ inObjects (record { answered = refl; answered′ = refl; tested = refl; compared = refl }) refl refl
+    broken granted deleted deleted′ inEstates (record { answered = refl; answered′ = refl; tested = refl; compared = refl }) refl refl
 
 -- A CHANGE INSIDE by AP
 abbrev pub added : Told
@@ -147,10 +147,10 @@ dropped = guessed (by 0 (OnObject (DropPassword 32 12)) done ∷ by 1 (OnStore (
 abbrev pub dropped′ : Told
 dropped′ = told (by 1 (OnStore (Read 2048)) (0 ∷ 8207 ∷ []) ∷ [])
 
-pub dropped-needed : Broken granted dropped dropped′ inObjects
+pub dropped-needed : Broken granted dropped dropped′ inEstates
 unfolding comparing
 dropped-needed =
-    broken granted dropped dropped′ inObjects (record { answered = refl; answered′ = refl; tested = refl; compared = refl }) refl refl
+    broken granted dropped dropped′ inEstates (record { answered = refl; answered′ = refl; tested = refl; compared = refl }) refl refl
 
 -- A CHANGE INSIDE by RG
 abbrev pub enrolled : Told
@@ -159,10 +159,10 @@ enrolled = guessed (by 0 (registers 32 99 0 11 2048) done ∷ by 1 (registers 32
 abbrev pub enrolled′ : Told
 enrolled′ = told (by 1 (registers 32 98 32 12 2048) done ∷ [])
 
-pub enrolled-needed : Broken granted enrolled enrolled′ inObjects
+pub enrolled-needed : Broken granted enrolled enrolled′ inEstates
 unfolding comparing
 enrolled-needed =
-    broken granted enrolled enrolled′ inObjects (record { answered = refl; answered′ = refl; tested = refl; compared = refl }) refl refl
+    broken granted enrolled enrolled′ inEstates (record { answered = refl; answered′ = refl; tested = refl; compared = refl }) refl refl
 
 -- A HOME PASSWORD of the member differs.
 abbrev pub housed : Told

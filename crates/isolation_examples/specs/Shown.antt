@@ -59,7 +59,7 @@ by-computing G t t′ tests parts c =
 
 -- some part of the conclusion differs
 abbrev pub differ : Parts → Bool
-differ p = not (p .answers && p .words && p .objects && p .domains)
+differ p = not (p .answers && p .words && p .estates && p .domains)
 
 -- then the conclusion fails
 pub fails : {G : Group} {t t′ : Told} {tests : Tests} {parts : Parts} → Shown G t t′ tests parts → differ parts ≡ true
