@@ -1,6 +1,6 @@
 -- The place that a search finds, and that a search for a value stops at the same place.
 use Prim.Native.Nat.{ℕ, suc, _+_, _<_, _≤_}
-use mathlib.Core.Path.{_≡_, refl, sym, ap, _∙_}
+use mathlib.Core.Path.{_≡_, refl, sym, _∙_}
 use mathlib.Core.Bool.{Bool, true, false, cond, true≢false}
 use mathlib.Core.Logic.{_⊎_, inl, inr}
 use native.Mathlib.Omega.{arith}
@@ -93,24 +93,3 @@ module _ {A : Type 0} (test : ℕ → Bool) (value : ℕ → A) (none : A) where
       go : (t : Bool) (p : ℕ) {x : A} → x ≡ valueAt value none m p → cond t (value i) x ≡ valueAt value none m (cond t i p)
       go true p ih = rw (lt-ltb i m (omega arith))
       go false p ih = ih
-
-module _ {A B : Type 0} (test : A → Bool) (value : A → B) (none : B) (n : ℕ) where
-  -- the value of the first of n places of a row that passes
-  abbrev pub lookFor : (ℕ → A) → B
-  lookFor g = first (λ k. test (g k)) (λ k. value (g k)) none 0 n
-
-  -- Where all that passes in one row stands in another, and no two places of that one pass, a search of the first finds what one of the
-  -- other finds, or nothing.
-  pub search-within : (g g′ : ℕ → A) → ((i j : ℕ) → i < n → j < n → test (g i) ≡ true → test (g j) ≡ true → i ≡ j)
-      → ((k : ℕ) → k < n → test (g′ k) ≡ true → (i : ℕ) × (i < n) × (g i ≡ g′ k)) → (lookFor g′ ≡ lookFor g) ⊎ (lookFor g′ ≡ none)
-  search-within g g′ single stands = go (search-cases (λ k. test (g′ k)) n)
-    where
-      go : PlaceFound (λ k. test (g′ k)) n ⊎ PlaceMissing (λ k. test (g′ k)) n → (lookFor g′ ≡ lookFor g) ⊎ (lookFor g′ ≡ none)
-      go (inr m) = inr (search-none (λ k. test (g′ k)) n (λ k. value (g′ k)) none (m .end))
-      go (inl f) =
-          let (i, l, e) = stands (placeFor (λ k. test (g′ k)) n) (f .within) (f .passes) in
-          let here : test (g i) ≡ true = rw e (f .passes) in
-          let s = found-some (λ k. test (g k)) n i l here .0 in
-          inl (search-value (λ k. test (g′ k)) n (λ k. value (g′ k)) none (f .within)
-          ∙ ap value (sym e ∙ ap g (sym (single _ i (s .within) l (s .passes) here)))
-          ∙ sym (search-value (λ k. test (g k)) n (λ k. value (g k)) none (s .within)))

@@ -10,8 +10,8 @@ use state::Accounts;
 use state::Estate;
 use state::Object;
 use state::Table;
-use state::estates::free_place;
-use state::estates::with_object;
+use state::estates::has_room;
+use state::estates::insert_object;
 use state::extents::apart;
 use state::extents::lies_in;
 use state::objects::new_object;
@@ -105,14 +105,13 @@ pub fn obj_create(
     if !within_limit(t, x.limits[account as usize], account, pages) {
         return unaltered(t, Refusal::LimitPassed);
     }
-    let k = free_place(e);
-    if 8 <= k {
+    if !has_room(e) {
         return unaltered(t, Refusal::Full);
     }
     zero_words(store, 64 * page as usize, 64 * pages as usize);
     Altered {
         answer: Answer::Done(0),
         place: place,
-        estate: with_object(e, k, o),
+        estate: insert_object(e, o),
     }
 }

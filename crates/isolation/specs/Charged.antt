@@ -15,7 +15,7 @@ use Rattle.bounded.specs.Fill.{tabulate, tabulate-at}
 use Rattle.bounded.specs.Sum.{total-none}
 use Rattle.state.specs.Places.{noObject, noEstate, freeObject, objectAt, estateAt, domainAt, setAt}
 use Rattle.state.specs.Pages.{pagesOn, estatePages}
-use Rattle.state.specs.Update.{newObject, addPassword, dropPassword, withObject}
+use Rattle.state.specs.Update.{newObject, addPassword, dropPassword, withObject, removeObject}
 use Rattle.state.specs.declared.Domain.{Domain}
 use Rattle.state.specs.declared.Accounts.{Accounts}
 use Rattle.state.specs.declared.Object.{Object}
@@ -38,7 +38,7 @@ use Rattle.calls.specs.declared.DomainCall.the-variants.{Insert, Remove, Get, L
 use Rattle.isolation.specs.Group.{Group, member}
 use Rattle.isolation.specs.Members.{member-below}
 use Rattle.isolation.specs.Premises.{AccountsApart}
-use Rattle.isolation.specs.Kept.{Each, put-each, free-each, becomes-each, Kept, AllKeep, step-keeps}
+use Rattle.isolation.specs.Kept.{Each, insert-each, free-each, becomes-each, goes-each, Kept, AllKeep, step-keeps}
 use Rattle.isolation.specs.Accounts.{boot-set, insideAccount, outsider-outside}
 
 module _ (G : Group) where
@@ -98,7 +98,11 @@ module _ (G : Group) where
     becomes-out : (b r place : ℕ) (o : Object) → (ObjectOut x (objectOf (found b r)) → ObjectOut x o) → Outsider (b / 32)
         → Each (ObjectOut x) (withObject (estateFound (found b r)) place o)
     becomes-out b r place o p m =
-        becomes-each (ObjectOut x) (free-out x) (none-out x) w (domainAt (w .state) d .active) b r place o p (i .outside .estates (b / 32) m)
+        becomes-each (ObjectOut x) (free-out x) (none-out x) w (domainAt (w .state) d .active) b r (i .outside .estates (b / 32) m) place o p
+
+    -- and that one gone
+    goes-out : (b r place : ℕ) → Outsider (b / 32) → Each (ObjectOut x) (removeObject (estateFound (found b r)) place)
+    goes-out b r place m = goes-each (ObjectOut x) (free-out x) (none-out x) w (domainAt (w .state) d .active) b r (i .outside .estates (b / 32) m) place
 
     -- what a done call changes
     done-out : (c : Call) → Passes w d c → AllKeep Outsider (ObjectOut x) Any (changes d c (view judged w d c))
@@ -108,11 +112,11 @@ module _ (G : Group) where
     done-out (OnStore (Execute a)) s = tt
     done-out (OnStore (Lookup a r)) s = tt
     done-out (OnObject (Create a n k u)) s = (
-      λ m. put-each (ObjectOut x) (estateAt (w .state .table) d) _ (newObject a n k u)
+      λ m. insert-each (ObjectOut x) (free-out x) (none-out x) (estateAt (w .state .table) d) (newObject a n k u)
           (λ p. outsider-outside G x (i .apart) d u (m .0) (m .1) (s .rest .1 .0)) (i .outside .estates d m),
       (tt, tt),
     )
-    done-out (OnObject (Delete b)) s = (becomes-out b 8 _ freeObject (λ o. free-out x), tt)
+    done-out (OnObject (Delete b)) s = (goes-out b 8 _, tt)
     done-out (OnObject (AddPassword b k v)) s = (becomes-out b 15 _ _ (λ o. o), tt)
     done-out (OnObject (DropPassword b k)) s = (becomes-out b 15 _ _ (λ o. drop-out x _ k o), tt)
     done-out (OnObject (Register b k l es)) s = (becomes-out b 15 _ _ (λ o. o), tt)

@@ -1,14 +1,16 @@
 -- What holds of the objects of some domains' estates, and of these domains: what a search finds there, and what a call keeps.
-use Prim.Native.Nat.{ℕ, suc, _/_}
+use Prim.Native.Nat.{ℕ, suc, _+_, _-_, _/_}
 use mathlib.Core.Path.{_≡_, refl, ap, subst}
 use mathlib.Core.Bool.{Bool, true}
 use mathlib.Core.List.{List, [], _∷_}
 use mathlib.Core.Logic.{_⊎_, inl, inr, ⊎-elim}
 use lib.ListN.{getD, set, replicate}
+use Rattle.bounded.specs.Fill.{tabulate}
+use Rattle.bounded.specs.Shift.{in-cases, out-cases}
 use Rattle.state.specs.Places.{noObject, noEstate, noDomain, freeObject, objectAt, estateAt, domainAt}
 use Rattle.state.specs.Extent.{covers}
-use Rattle.state.specs.Lookup.{hasBase, objectWhere, placeWhere, based, objectBased, covering, objectCovering}
-use Rattle.state.specs.Update.{withObject}
+use Rattle.state.specs.Lookup.{hasBase, objectWhere, placeWhere, placeAbove, based, objectBased, covering, objectCovering}
+use Rattle.state.specs.Update.{withObject, objectIn, insertObject, objectOut, removeObject}
 use Rattle.state.specs.Laws.Lookup.{found-or-free}
 use Rattle.soundness.specs.Sound.{sound}
 use Rattle.state.specs.declared.Object.{Object}
@@ -45,8 +47,26 @@ Each P e = (k : ℕ) → P (objectAt e k)
 pub put-each : (P : Object → Type 0) (e : Estate) (place : ℕ) (o : Object) → P o → Each P e → Each P (withObject e place o)
 put-each P e place o p h k = set-any P (e .objects) place k o noObject (λ e. p) (h k)
 
+-- what holds at each place of a list that is given so, and past its end
+tabulate-any : {A : Type 0} (P : A → Type 0) (d : A) → P d → (n : ℕ) (g : ℕ → A) → ((k : ℕ) → P (g k)) → (k : ℕ) → P (getD (tabulate n g) k d)
+tabulate-any P d none ℕ.zero g h k = none
+tabulate-any P d none (suc n) g h ℕ.zero = h 0
+tabulate-any P d none (suc n) g h (suc k) = tabulate-any P d none n (λ j. g (suc j)) (λ j. h (suc j)) k
+
 -- and where it holds of a free place
 module _ (P : Object → Type 0) (free : P freeObject) (none : P noObject) where
+  -- it stays so with an object more of which it holds, and with one less
+  pub insert-each : (e : Estate) (o : Object) → P o → Each P e → Each P (insertObject e o)
+  unfolding insertObject
+  insert-each e o p h =
+      tabulate-any P noObject none 8 (objectIn e (placeAbove e (o .base)) o)
+      (λ k. in-cases (objectAt e) (placeAbove e (o .base)) o P k (λ a. h k) (λ a. p) (λ a. h (k - 1)))
+
+  remove-each : (e : Estate) (place : ℕ) → Each P e → Each P (removeObject e place)
+  unfolding removeObject
+  remove-each e place h =
+      tabulate-any P noObject none 8 (objectOut e place) (λ k. out-cases (objectAt e) 7 freeObject place P k (λ a. h k) (λ a b. h (k + 1)) (λ a b. free))
+
   -- it holds at each of several
   pub free-each : (n k : ℕ) → P (getD (replicate n freeObject) k noObject)
   free-each ℕ.zero k = none
@@ -65,16 +85,22 @@ module _ (P : Object → Type 0) (free : P freeObject) (none : P noObject) where
   unfolding objectCovering covering
   covering-each t p h = where-each (λ o. covers o p) (estateAt t (p / 32)) h
 
-  -- A SEARCH BY A BASE finds the estate and the object of the table, or nothing; another object in that one's place
-  pub becomes-each : (w : World) (f : Frame) (b r place : ℕ) (o : Object) → (P (objectOf (search judged w f (rights (Base b) r))) → P o)
-      → Each P (estateAt (w .state .table) (b / 32)) → Each P (withObject (estateFound (search judged w f (rights (Base b) r))) place o)
-  becomes-each w f b r place o p h =
-      let (e, q) = found (judged (w .state .table) (w .words) f (Base b) r) in
-      put-each P (estateFound (search judged w f (rights (Base b) r))) place o (p q) e
-    where
-      found : (j : Judgement) → Each P (estateFound (foundBy w (Base b) j)) × P (objectOf (foundBy w (Base b) j))
-      found (Granted pair) = (h, based-each (w .state .table) b h)
-      found Judgement.Refused = (λ k. none, free)
+  -- A SEARCH BY A BASE finds the estate and the object of the table, or nothing
+  module _ (w : World) (f : Frame) (b r : ℕ) (h : Each P (estateAt (w .state .table) (b / 32))) where
+    found-each : Each P (estateFound (search judged w f (rights (Base b) r))) × P (objectOf (search judged w f (rights (Base b) r)))
+    found-each = go (judged (w .state .table) (w .words) f (Base b) r)
+      where
+        go : (j : Judgement) → Each P (estateFound (foundBy w (Base b) j)) × P (objectOf (foundBy w (Base b) j))
+        go (Granted pair) = (h, based-each (w .state .table) b h)
+        go Judgement.Refused = (λ k. none, free)
+
+    -- another object in that one's place, and that one gone
+    pub becomes-each : (place : ℕ) (o : Object) → (P (objectOf (search judged w f (rights (Base b) r))) → P o)
+        → Each P (withObject (estateFound (search judged w f (rights (Base b) r))) place o)
+    becomes-each place o p = put-each P (estateFound (search judged w f (rights (Base b) r))) place o (p (found-each .1)) (found-each .0)
+
+    pub goes-each : (place : ℕ) → Each P (removeObject (estateFound (search judged w f (rights (Base b) r))) place)
+    goes-each place = remove-each (estateFound (search judged w f (rights (Base b) r))) place (found-each .0)
 
 -- STATES: of some domains, something that holds of each of them and of each object of their estates
 module _ (Of : ℕ → Type 0) (P : Object → Type 0) (Q : Domain → Type 0) where

@@ -2,6 +2,7 @@
 use calls::Altered;
 use calls::Refusal;
 use calls::replies::becomes;
+use calls::replies::goes;
 use calls::replies::unaltered;
 use judge::Judgement;
 use judge::Target;
@@ -11,7 +12,6 @@ use state::Frame;
 use state::Table;
 use state::objects::add_password;
 use state::objects::drop_password;
-use state::objects::free_object;
 use state::objects::free_password_place;
 use state::objects::has_password;
 use state::tables::object_based;
@@ -23,7 +23,7 @@ ghost use Rattle.calls.specs.Parts.{Alters};
 ghost use Rattle.calls.specs.declared.Call.the-variants.{OnObject};
 ghost use Rattle.calls.specs.declared.ObjectCall.the-variants.{Delete, AddPassword, DropPassword};
 
-// DL: removes an object.
+// DL: removes an object; those behind it close the gap.
 pub fn obj_delete(t: Table, store: &[u64], f: Frame, base: u64) -> Altered
     ensures { λ r. ⌜ ((u : Limits) (d : ℕ) → Alters t u d f (now (store .entry)) (Delete base) r (now (store .entry))) ⌝ }
 {
@@ -33,7 +33,7 @@ pub fn obj_delete(t: Table, store: &[u64], f: Frame, base: u64) -> Altered
     let Judgement::Granted(pair) = judge(t, store, f, Target::Base(base), Rights::DESTROY) else {
         return unaltered(t, Refusal::NotGranted);
     };
-    becomes(t, base, free_object())
+    goes(t, base)
 }
 
 // Whether the arguments of AP are in range.
@@ -43,7 +43,7 @@ fn add_in_range(base: u64, password: u64, mode: u64) -> bool
     (base < 128) & (password != 0) & Rights::legal(mode)
 }
 
-// AP: adds a password to an object.
+// AP: adds a password to an object, behind the last.
 pub fn obj_passwd_add(
     t: Table,
     store: &[u64],

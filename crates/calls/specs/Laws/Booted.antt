@@ -9,14 +9,16 @@ use native.Mathlib.Omega.{arith}
 use lib.Dec.{ltb}
 use lib.ListN.{length, length-set, length-replicate, getD-replicate}
 use Rattle.bounded.specs.Fill.{tabulate-at}
+use Rattle.bounded.specs.Search.{first}
 use Rattle.state.specs.Places.{noObject, noEstate, noDomain, freeObject, emptyEstate, emptyDomain, emptyState}
-use Rattle.state.specs.Update.{newObject}
+use Rattle.state.specs.Lookup.{placeAbove, hasRoom}
+use Rattle.state.specs.Update.{newObject, insertObject}
 use Rattle.state.specs.Laws.Extent.{apart-free, apart-sym}
 use Rattle.soundness.specs.Sound.{estateOk, domainOk, sound}
 use Rattle.soundness.specs.Laws.Frames.{only-sound}
 use Rattle.soundness.specs.Laws.Domains.{active-sound, empty-domain}
 use Rattle.soundness.specs.Laws.Objects.{new-sound}
-use Rattle.soundness.specs.Laws.Estates.{object-apart-sound, empty-estate, empty-sound}
+use Rattle.soundness.specs.Laws.Estates.{insert-sound, empty-estate, empty-sound}
 use Rattle.soundness.specs.Laws.StateParts.{parts-state}
 use Rattle.calls.specs.Answers.{numberOf}
 use Rattle.calls.specs.View.{Check, check, firstFailing}
@@ -34,11 +36,11 @@ use Rattle.calls.specs.declared.Refusal.the-variants.{NoDomain, OutOfRan
 use Rattle.calls.specs.declared.Answer.the-variants.{Refused}
 
 home-estate : (plan : List ℕ) (d : ℕ) → 0 < homeOf plan d → accountOf plan d < 4 → estateOk (homeEstate plan d) d ≡ true
-unfolding homeEstate
+unfolding homeEstate newObject insertObject placeAbove hasRoom first
 home-estate plan d p u =
-    object-apart-sound emptyEstate d 0 (newObject (32 * d) 1 (homeOf plan d) (accountOf plan d))
-    (new-sound (32 * d) 1 (homeOf plan d) (accountOf plan d) d (omega arith) p u (omega arith) (omega arith))
-    (λ j l ne. rw (getD-replicate 8 j freeObject noObject l) (apart-sym _ freeObject (apart-free _ freeObject refl))) (empty-estate d)
+    insert-sound emptyEstate d (newObject (32 * d) 1 (homeOf plan d) (accountOf plan d))
+    (new-sound (32 * d) 1 (homeOf plan d) (accountOf plan d) d (omega arith) p u (omega arith) (omega arith)) (omega arith)
+    (λ j l. rw (getD-replicate 8 j freeObject noObject l) (apart-sym _ freeObject (apart-free _ freeObject refl))) refl (empty-estate d)
 
 home-domain : (plan : List ℕ) (d : ℕ) → d < 4 → domainOk (homeDomain plan d) ≡ true
 unfolding homeDomain

@@ -1,6 +1,6 @@
 use mathlib.Core.Path.{_≡_, refl}
 use native.Mathlib.Omega.{arith}
-use borrow.Author.Tests.{le-ltb, lt-ltb, le-leb}
+use borrow.Author.Tests.{le-leb}
 use borrow.Author.Needs.{needs}
 use Rattle.bounded.specs.Bools.{and-left}
 use Rattle.state.specs.Update.{newObject}
@@ -64,8 +64,7 @@ obj-create-spec =
       holds (r .run-ok .ensures) (s .before .before .if3 .left),
       holds (s .in-set .ensures) (l .before .before .if4 .left),
       holds (l .within-limit .ensures) (k .before .if5 .left),
-      ← k .free-place .ensures,
-      le-ltb _ _ (c .before .if6 .taken),
+      fails (k .has-room .ensures) (c .before .if6 .taken),
     ))
     (c .unaltered6 .ensures))
     (λ c. let a = c .before .before .before .before .before .before .before .before .before .before .before .before .before in omega (arith, create-range _ _ _ _ (holds (a .before .create-in-range .ensures) (a .if2 .left)) .0))
@@ -81,12 +80,10 @@ obj-create-spec =
       i,
       holds (n .in-set .ensures) (l .before .before .if4 .left),
       holds (l .within-limit .ensures) (k .before .if5 .left),
-      ← k .free-place .ensures,
-      lt-ltb _ _ (z .before .before .if6 .left),
+      holds (k .has-room .ensures) (z .before .before .if6 .left),
     ))
     (λ e m q s. rw (
-      c .with-object .ensures,
-      k .free-place .ensures,
+      c .insert-object .ensures,
       made o,
       z .zero-words .ensures,
       e .long,

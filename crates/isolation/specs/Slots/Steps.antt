@@ -6,8 +6,8 @@ use mathlib.Core.Logic.{⊎-elim}
 use native.Mathlib.Omega.{arith}
 use borrow.Author.Tests.{leb-true, lt-ltb}
 use Rattle.bounded.specs.Bools.{flag}
-use Rattle.state.specs.Places.{freeObject, estateAt, domainAt}
-use Rattle.state.specs.Update.{newObject, addPassword, withObject, withActive}
+use Rattle.state.specs.Places.{estateAt, domainAt}
+use Rattle.state.specs.Update.{newObject, addPassword, withObject, removeObject, withActive}
 use Rattle.soundness.specs.Sound.{sound}
 use Rattle.soundness.specs.Laws.DomainParts.{FrameSound, frame-parts, domain-parts}
 use Rattle.soundness.specs.Laws.StateParts.{state-parts}
@@ -28,7 +28,7 @@ use Rattle.calls.specs.declared.ObjectCall.the-variants.{Create, Delete, AddPas
 use Rattle.calls.specs.declared.DomainCall.the-variants.{Insert, Remove, Get, Lock, PdxCall, PdxReturn}
 use Rattle.isolation.specs.Group.{Group, member}
 use Rattle.isolation.specs.Premises.{wants, Judges, CallPremise}
-use Rattle.isolation.specs.Kept.{put-each, becomes-each, AllKeep, step-keeps}
+use Rattle.isolation.specs.Kept.{insert-each, becomes-each, goes-each, AllKeep, step-keeps}
 use Rattle.isolation.specs.Seen.{live-inside}
 use Rattle.isolation.specs.Slots.Inside.{FrameIn, DomainIn, ObjectIn, EstateIn, Member, StateIn}
 use Rattle.isolation.specs.Slots.Frames.{insert-in, remove-in, lock-in, entered-in, save-in, restore-in}
@@ -50,7 +50,11 @@ module _ (G : Group) where
     -- another object in the place of one that was found
     becomes-in : (b r place : ℕ) (o : Object) → (ObjectIn G (objectOf (search judged w frame (rights (Base b) r))) → member G (b / 32) ≡ true → ObjectIn G o)
         → member G (b / 32) ≡ true → EstateIn G (withObject (estateFound (search judged w frame (rights (Base b) r))) place o)
-    becomes-in b r place o p m = becomes-each (ObjectIn G) (free-in G) (none-in G) w frame b r place o (λ q. p q m) (i .estates (b / 32) m)
+    becomes-in b r place o p m = becomes-each (ObjectIn G) (free-in G) (none-in G) w frame b r (i .estates (b / 32) m) place o (λ q. p q m)
+
+    -- and that one gone
+    goes-in : (b r place : ℕ) → member G (b / 32) ≡ true → EstateIn G (removeObject (estateFound (search judged w frame (rights (Base b) r))) place)
+    goes-in b r place m = goes-each (ObjectIn G) (free-in G) (none-in G) w frame b r (i .estates (b / 32) m) place
 
     -- a call that passes gets as far as judging
     judges : (c : Call) → Passes w d c → wants (wanted c) ≡ true → Judges w (record { domain = d; call = c })
@@ -65,8 +69,11 @@ module _ (G : Group) where
     done-in (OnStore (Write a x)) p z s = (tt, tt)
     done-in (OnStore (Execute a)) p z s = tt
     done-in (OnStore (Lookup a r)) p z s = tt
-    done-in (OnObject (Create a n k u)) p z s = (λ m. put-each (ObjectIn G) (estateAt (w .state .table) d) _ (newObject a n k u) (λ q. absurd (omega arith)) (i .estates d m), (tt, tt))
-    done-in (OnObject (Delete b)) p z s = (becomes-in b 8 _ freeObject (λ o m q. absurd (omega arith)), tt)
+    done-in (OnObject (Create a n k u)) p z s = (
+      λ m. insert-each (ObjectIn G) (free-in G) (none-in G) (estateAt (w .state .table) d) (newObject a n k u) (λ q. absurd (omega arith)) (i .estates d m),
+      (tt, tt),
+    )
+    done-in (OnObject (Delete b)) p z s = (goes-in b 8 _, tt)
     done-in (OnObject (AddPassword b k x)) p z s = (becomes-in b 15 _ _ (λ o m. o), tt)
     done-in (OnObject (DropPassword b k)) p z s = (becomes-in b 15 _ _ (λ o m. drop-in G _ k o), tt)
     done-in (OnObject (Register b k l es)) p z s = (

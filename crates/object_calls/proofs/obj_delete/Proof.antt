@@ -14,10 +14,10 @@ obj-delete-spec =
     (tie.spec (λ c κs. search needs) (λ c u d. alters-range _ u d _ _ _ (le-ltb _ _ (c .before .if1 .taken)) (c .unaltered .ensures)) (λ c κs. search needs) (λ c. search needs) (λ c. search needs) (λ c κs. search needs)
     (λ c u d. let j = c .before .before .before in based-late _ u d _ _ _ refl (lt-ltb _ _ (j .before .if1 .left)) refl (j .judge .ensures) (c .before .enum-told .given .1)
     (λ v s. rw (s .found)) (c .unaltered2 .ensures))
-    (λ c κs. search needs) (λ c κs. search needs)
+    (λ c κs. search needs)
     (λ c u d.
-    let g = c .before .before .before in
+    let g = c .before .before in
     let j = g .before .before in
     let n = lt-ltb _ _ (j .before .if1 .left) in
     based-done _ u d _ _ _ refl n refl (j .judge .ensures) (g .pair .given .1) _ n
-    (λ v s. rw (s .found)) (λ v s. rw (s .found, c .before .free-object .ensures)) (c .becomes .ensures)))
+    (λ v s. rw (s .found)) (λ v s. rw (s .found)) (c .goes .ensures)))

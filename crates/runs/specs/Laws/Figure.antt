@@ -7,12 +7,11 @@ use native.Mathlib.Omega.{arith}
 use lib.Dec.{leb, ltb, eqb}
 use borrow.Author.Tests.{ltb-true, leb-true, eqb-true, ne-eqb}
 use Rattle.bounded.specs.Bools.{cond-ind}
-use Rattle.state.specs.Places.{freeObject, objectAt, estateAt, domainAt, limitAt}
-use Rattle.state.specs.Lookup.{hasBase, placeWhere, freePlace, placeBased, based, objectBased}
-use Rattle.state.specs.Update.{newObject, addPassword, dropPassword, withObject, withEstate}
+use Rattle.state.specs.Places.{estateAt, domainAt, limitAt}
+use Rattle.state.specs.Lookup.{hasBase, placeWhere, hasRoom, placeBased, based, objectBased}
+use Rattle.state.specs.Update.{newObject, addPassword, dropPassword, withObject, insertObject, removeObject, withEstate}
 use Rattle.state.specs.Pages.{pagesOn, pagesOf}
-use Rattle.state.specs.Laws.Pages.{put-pages, estate-figure, none-on}
-use Rattle.state.specs.Laws.Lookup.{first-free}
+use Rattle.state.specs.Laws.Pages.{put-pages, insert-pages, remove-pages, estate-figure}
 use Rattle.state.specs.declared.Object.{Object}
 use Rattle.state.specs.declared.Frame.{Frame}
 use Rattle.state.specs.declared.Table.{Table}
@@ -50,16 +49,6 @@ drop-charge o k =
     (λ e. cond-ind (λ x. SameCharge x o) (eqb (o .registration .password) k) _ _ (λ r. record { pages = refl; account = refl })
     (λ r. record { pages = refl; account = refl }))
 
--- an object put at a place of an estate of a sound state
-put-figure : (a : ℕ) (s : State) (d k : ℕ) (o : Object) → sound s ≡ true → d < 4 → k < 8
-    → pagesOf (withEstate s d (withObject (estateAt (s .table) d) k o) .table) a + pagesOn a (objectAt (estateAt (s .table) d) k)
-    ≡ pagesOf (s .table) a + pagesOn a o
-put-figure a s d k o h l m =
-    let q = state-parts s h in
-    let x = estate-figure a s d (withObject (estateAt (s .table) d) k o) l (q .long-estates) in
-    let y = put-pages a (estateAt (s .table) d) k o m (estate-parts _ d (q .estate d l) .long) in
-    omega (arith, x, y)
-
 module _ (a : ℕ) (w : World) (d : ℕ) (h : sound (w .state) ≡ true) where
   abbrev t : Table
   t = w .state .table
@@ -76,8 +65,11 @@ module _ (a : ℕ) (w : World) (d : ℕ) (h : sound (w .state) ≡ true) where
   becomes-figure b r o s =
       let g = was-granted w frame (Base b) r s in
       let f = found w frame b r h s in
-      let x = put-figure a (w .state) (b / 32) (placeWhere (hasBase b) (estateAt t (b / 32))) o h (f .estate) (f .stands .within) in
-      rw (g .judgement) (rw (f .stands .there) at x)
+      let e = estateAt t (b / 32) in
+      let place = placeWhere (hasBase b) e in
+      let x = estate-figure a (w .state) (b / 32) (withObject e place o) (f .estate) (state-parts (w .state) h .long-estates) in
+      let y = rw (f .stands .there) at (put-pages a e place o (f .stands .within) (estate-parts e (b / 32) (f .sound-estate) .long)) in
+      rw (g .judgement) (omega (arith, x, y))
 
   -- with its charge, the figure stays
   kept-figure : (b r : ℕ) (o : Object) → isSome (owned w frame b r) ≡ true → SameCharge o (objectOf (owned w frame b r))
@@ -89,16 +81,29 @@ module _ (a : ℕ) (w : World) (d : ℕ) (h : sound (w .state) ≡ true) where
       let y : pagesOn a o ≡ pagesOn a (objectBased t b) = rw (m .pages, m .account, same) in
       omega (arith, becomes-figure b r o s, y)
 
-  -- a new object at a free place
-  new-figure : (p n k u : ℕ) → d < 4 → ltb (freePlace (estateAt t d)) 8 ≡ true
-      → pagesOf (withEstate (w .state) d (withObject (estateAt t d) (freePlace (estateAt t d)) (newObject p n k u)) .table) a + 0
-      ≡ pagesOf t a + cond (eqb u a) n 0
+  -- an object that was found goes
+  goes-figure : (b r : ℕ) → isSome (owned w frame b r) ≡ true
+      → pagesOf (withEstate (w .state) (b / 32) (removeObject (estateFound (owned w frame b r)) (placeBased (estateFound (owned w frame b r)) b)) .table) a
+      + pagesOn a (objectBased t b)
+      ≡ pagesOf t a + 0
+  unfolding objectBased based placeBased
+  goes-figure b r s =
+      let g = was-granted w frame (Base b) r s in
+      let f = found w frame b r h s in
+      let e = estateAt t (b / 32) in
+      let place = placeWhere (hasBase b) e in
+      let x = estate-figure a (w .state) (b / 32) (removeObject e place) (f .estate) (state-parts (w .state) h .long-estates) in
+      let y = rw (f .stands .there) at (remove-pages a e place (f .stands .within)) in
+      rw (g .judgement) (omega (arith, x, y))
+
+  -- a new object
+  new-figure : (p n k u : ℕ) → d < 4 → hasRoom (estateAt t d) ≡ true
+      → pagesOf (withEstate (w .state) d (insertObject (estateAt t d) (newObject p n k u)) .table) a + 0 ≡ pagesOf t a + cond (eqb u a) n 0
   unfolding newObject
   new-figure p n k u l r =
-      let room = ltb-true _ 8 r in
-      let x = put-figure a (w .state) d (freePlace (estateAt t d)) (newObject p n k u) h l room in
-      let z = none-on a (objectAt (estateAt t d) (freePlace (estateAt t d))) (eqb-true _ 0 (first-free (estateAt t d) room)) in
-      omega (arith, x, z)
+      let x = estate-figure a (w .state) d (insertObject (estateAt t d) (newObject p n k u)) l (state-parts (w .state) h .long-estates) in
+      let y = insert-pages a (estateAt t d) (newObject p n k u) r in
+      omega (arith, x, y)
 
   -- a done call moves the figure by what it creates and deletes
   done-figure : (c : Call) → Passes w d c
@@ -109,10 +114,7 @@ module _ (a : ℕ) (w : World) (d : ℕ) (h : sound (w .state) ≡ true) where
   done-figure (OnStore (Execute x)) p = refl
   done-figure (OnStore (Lookup x r)) p = refl
   done-figure (OnObject (Create q n k u)) p = new-figure q n k u (p .domain) (p .rest .1 .1 .1 .0)
-  done-figure (OnObject (Delete b)) p =
-      let x = becomes-figure b 8 freeObject (p .rest .0) in
-      let z = none-on a freeObject refl in
-      omega (arith, x, z)
+  done-figure (OnObject (Delete b)) p = goes-figure b 8 (p .rest .0)
   done-figure (OnObject (AddPassword b k m)) p = kept-figure b 15 _ (p .rest .0) (record { pages = refl; account = refl })
   done-figure (OnObject (DropPassword b k)) p = kept-figure b 15 _ (p .rest .0) (drop-charge _ k)
   done-figure (OnObject (Register b k l es)) p = kept-figure b 15 _ (p .rest .0) (record { pages = refl; account = refl })

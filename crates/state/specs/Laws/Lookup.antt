@@ -1,16 +1,17 @@
 -- What a lookup finds among the objects of an estate.
 use Prim.Native.Nat.{ℕ, _<_, _≤_}
 use mathlib.Core.Path.{_≡_, refl, sym}
-use mathlib.Core.Bool.{Bool, true, false, not}
+use mathlib.Core.Bool.{Bool, true, false, not, _||_}
 use mathlib.Core.Logic.{_⊎_, inl, inr, ⊎-elim}
 use native.Mathlib.Omega.{arith}
+use lib.Dec.{ltb}
 use borrow.Author.Tests.{le-leb, le-ltb, eqb-true, not-true}
-use Rattle.bounded.specs.Bools.{flag, and-left, and-right, same-or-not}
+use Rattle.bounded.specs.Bools.{and-left, and-right, or-left, same-or-not}
 use Rattle.bounded.specs.Place.{PlaceFound, PlaceMissing, search-cases, found-below, missing-end, found-some, search-value, search-none}
 use Rattle.bounded.specs.Search.{first}
 use Rattle.state.specs.Places.{noObject, noEstate, freeObject, objectAt, estateOf}
 use Rattle.state.specs.Extent.{free, covers, apart}
-use Rattle.state.specs.Lookup.{hasBase, objectWhere, placeWhere, covering, based, objectBased}
+use Rattle.state.specs.Lookup.{hasBase, objectWhere, placeWhere, covering, based, objectBased, placeAbove, hasRoom}
 use Rattle.state.specs.Laws.Extent.{not-zero, covers-parts, parts-covers, apart-covers}
 use Rattle.state.specs.declared.Object.{Object}
 use Rattle.state.specs.declared.Estate.{Estate}
@@ -101,6 +102,11 @@ found-or-free test e =
 -- where a test that no free object passes finds no pages, the answer is a free object
 pub none-answered : (test : Object → Bool) → Standing test → (e : Estate) → objectWhere test e .pages ≡ 0 → objectWhere test e ≡ freeObject
 none-answered test pages e z = ⊎-elim (λ f. absurd (omega (arith, pages _ (f .passes)))) (λ q. q) (found-or-free test e)
+
+-- where there is room, the place for a new object is one of the eight
+pub room-place : (e : Estate) (base : ℕ) → hasRoom e ≡ true → placeAbove e base < 8
+unfolding hasRoom placeAbove
+room-place e base r = some-stands (λ o. free o || ltb base (o .base)) e 7 (omega arith) (or-left (free (objectAt e 7)) _ r) .within
 
 -- an object found by its base has the base
 pub based-base : (t : Table) (base : ℕ) → 0 < objectBased t base .pages → objectBased t base .base ≡ base

@@ -13,6 +13,7 @@ use Rattle.bounded.specs.Shift.{in-total, out-total}
 use Rattle.state.specs.Places.{noObject, noEstate, freeObject, objectAt, estateAt}
 use Rattle.state.specs.Lookup.{placeAbove, hasRoom}
 use Rattle.state.specs.Update.{withObject, objectIn, insertObject, objectOut, removeObject, withEstate}
+use Rattle.state.specs.Laws.Lookup.{room-place}
 use Rattle.state.specs.Pages.{pagesOn, estatePages, pagesOf}
 use Rattle.state.specs.declared.Object.{Object}
 use Rattle.state.specs.declared.Estate.{Estate}
@@ -29,10 +30,10 @@ unfolding estatePages
 put-pages a e k o l n = total-set 8 (pagesOn a) (e .objects) k o noObject l n
 
 -- AN OBJECT PUT IN moves them by its own, where there is room
-pub insert-pages : (a : ℕ) (e : Estate) (o : Object) → placeAbove e (o .base) < 8 → hasRoom e ≡ true → estatePages a (insertObject e o) ≡ estatePages a e + pagesOn a o
+pub insert-pages : (a : ℕ) (e : Estate) (o : Object) → hasRoom e ≡ true → estatePages a (insertObject e o) ≡ estatePages a e + pagesOn a o
 unfolding estatePages insertObject hasRoom
-insert-pages a e o l r =
-    let s = in-total (objectAt e) (placeAbove e (o .base)) o (pagesOn a) 7 l in
+insert-pages a e o r =
+    let s = in-total (objectAt e) (placeAbove e (o .base)) o (pagesOn a) 7 (room-place e (o .base) r) in
     let z = none-on a (objectAt e 7) (eqb-true _ 0 r) in
     total-same 8 _ _ (λ k m. ap (pagesOn a) (tabulate-at 8 (objectIn e (placeAbove e (o .base)) o) k noObject m)) ∙ omega (arith, s, z)
 
