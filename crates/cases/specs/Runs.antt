@@ -7,8 +7,8 @@ use Rattle.bounded.specs.Search.{first}
 use Rattle.bounded.specs.Every.{below}
 use Rattle.bounded.specs.Sum.{total}
 use Rattle.state.specs.Extent.{covers, liesIn, apart}
-use Rattle.state.specs.Lookup.{covering, based, objectCovering, objectBased, placeBased, freePlace, placeOf, ordinaryMode, modeOf, hasPassword}
-use Rattle.state.specs.Update.{insertSlot, removeSlot, lockSlot, mergeList, onlyList, saveDomain, restoreDomain, newObject, addPassword, dropPassword}
+use Rattle.state.specs.Lookup.{covering, based, objectCovering, objectBased, placeBased, placeAbove, hasRoom, placeOf, ordinaryMode, modeOf, hasPassword}
+use Rattle.state.specs.Update.{insertSlot, removeSlot, lockSlot, mergeList, onlyList, saveDomain, restoreDomain, newObject, addPassword, dropPassword, insertObject, removeObject}
 use Rattle.state.specs.Pages.{estatePages, pagesOf, inSet}
 use Rattle.soundness.specs.Sound.{sound}
 use Rattle.clists.specs.Clist.{live, listEnd, untilEnd, clist, listAt}
@@ -53,7 +53,7 @@ after w (e ∷ es) = let r = step w (e .domain) (e .call) in after (worldOf r) e
 
 -- THE SAME WITHOUT CHECK 3, and by any judging: this is computed. Unfolding it unfolds all that it computes with
 unfoldable pub answersBy : Judging → World → List Exchange → List (List ℕ)
-unfolding touched first below total estatePages pagesOf inSet covers liesIn apart covering based objectCovering objectBased placeBased freePlace placeOf ordinaryMode modeOf hasPassword insertSlot removeSlot lockSlot mergeList onlyList saveDomain restoreDomain newObject addPassword dropPassword live listEnd untilEnd clist listAt pairMode verdictOf pairVerdict listVerdict slotVerdict frameVerdict searched inRange unlocked early view runFree isEntry late checks frameFields registration changes zeroed uncheckedBy homeEstate homeDomain bootAccounts bootState homePair bootWords homesOk limitsOk setsOk homePages roomOk planOk boot
+unfolding touched first below total estatePages pagesOf inSet covers liesIn apart covering based objectCovering objectBased placeBased placeAbove hasRoom placeOf ordinaryMode modeOf hasPassword insertSlot removeSlot lockSlot mergeList onlyList saveDomain restoreDomain newObject addPassword dropPassword insertObject removeObject live listEnd untilEnd clist listAt pairMode verdictOf pairVerdict listVerdict slotVerdict frameVerdict searched inRange unlocked early view runFree isEntry late checks frameFields registration changes zeroed uncheckedBy homeEstate homeDomain bootAccounts bootState homePair bootWords homesOk limitsOk setsOk homePages roomOk planOk boot
 answersBy judging w [] = []
 answersBy judging w (e ∷ es) = let r = uncheckedBy judging w (e .domain) (e .call) in answerOf r ∷ answersBy judging (worldOf r) es
 
