@@ -50,4 +50,3 @@ pub estate-figure : (a : ℕ) (s : State) (d : ℕ) (e : Estate) → d < 4 → l
     → pagesOf (withEstate s d e .table) a + estatePages a (estateAt (s .table) d) ≡ pagesOf (s .table) a + estatePages a e
 unfolding pagesOf
 estate-figure a s d e l n = total-set 4 (estatePages a) (s .table .estates) d e noEstate l n
-
