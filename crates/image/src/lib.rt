@@ -11,7 +11,7 @@ use layout::sizes::STATE_ACCOUNTS;
 use layout::sizes::STATE_DOMAINS;
 use soundness::sound;
 use state::State;
-use state::estates::empty_state;
+use updates::estates::empty_state;
 ghost use mathlib.Core.Path.{_≡_};
 ghost use Prim.Native.Nat.{_+_, _≤_};
 ghost use lib.ListN.{length, drop};

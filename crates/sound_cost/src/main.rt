@@ -10,15 +10,15 @@ use state::Estate;
 use state::Object;
 use state::Registration;
 use state::State;
-use state::domains::save_domain;
-use state::estates::empty_state;
-use state::estates::with_domain;
-use state::estates::with_estate;
-use state::estates::with_object;
-use state::frames::insert_slot;
-use state::objects::add_password;
-use state::objects::new_object;
-use state::objects::with_registration;
+use updates::domains::save_domain;
+use updates::estates::empty_state;
+use updates::estates::with_domain;
+use updates::estates::with_estate;
+use updates::estates::with_object;
+use updates::frames::insert_slot;
+use updates::objects::add_password;
+use updates::objects::new_object;
+use updates::objects::with_registration;
 
 // An object with two passwords and a registration, on account 1.
 fn registered(base: u8, word: u64) -> Object

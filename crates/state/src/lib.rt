@@ -3,10 +3,8 @@
 // A struct by value, with a fixed number of places in each array. A place for an object with 0 pages is free, a place for a
 // password with the word 0 is free, and a registration with the password 0 is none.
 
-pub mod domains;
 pub mod estates;
 pub mod extents;
-pub mod frames;
 pub mod objects;
 pub mod tables;
 
