@@ -1,11 +1,12 @@
 MONITOR = target/bin/monitor
 CALLS = examples/booking.calls
 
-.PHONY: help test run explain accounts modes compare panel bench
+.PHONY: help test run explain accounts objects modes compare panel bench
 help:
 	@echo 'make run [CALLS=FILE]      answers examples/booking.calls, or the call lines in FILE'
 	@echo 'make explain [CALLS=FILE]  the same, each line beside its answer in words'
 	@echo 'make accounts [CALLS=FILE] the pages on each account behind the same call lines'
+	@echo 'make objects [CALLS=FILE]  the objects behind them: base, pages, account, number of passwords, and 1 for a registration'
 	@echo 'make modes                 prints the mode rule, 1 or 0 for each mode from 0 to 255, one a line'
 	@echo 'make test                  the gate: proves every crate from nothing, tries the must-fail edits, and runs the second implementation beside the program and the C functions'
 	@echo 'make compare               runs the second implementation beside the program, without the proofs'
@@ -28,6 +29,9 @@ explain: $(MONITOR)
 
 accounts: target/bin/accounts
 	@target/bin/accounts < $(CALLS)
+
+objects: target/bin/objects
+	@target/bin/objects < $(CALLS)
 
 modes: target/bin/modes
 	@target/bin/modes

@@ -1,3 +1,1 @@
 pub mod Figured
-pub mod Passed
-pub mod Before

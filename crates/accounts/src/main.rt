@@ -2,20 +2,16 @@
 ghost use Prim.Native.Nat.{_≤_};
 ghost use lib.ListN.{length, take};
 ghost use Rattle.accounts.specs.Figured.{Figured};
+use ending::end_table;
 use figures::Text;
 use figures::figure_text;
-use turns::run;
 use turns::transfer::write_text;
 
 // Reads call lines to the end of the input, writes no answers, and gives the figures that they leave.
 fn end_text() -> Text
     ensures { λ r. ⌜ Figured (take (r .count) (r .bytes)) × (r .count ≤ length (r .bytes)) ⌝ }
 {
-    let mut store = [0u64; 8192];
-    let end = run(&mut store, false);
-    let f = end.feed;
-    let s = f.state;
-    figure_text(s.table)
+    figure_text(end_table())
 }
 
 fn main() {

@@ -1,17 +1,23 @@
--- Before a boot no account has pages, whatever is called: document 02, T-05.
-use Prim.Native.Nat.{ℕ, _<_, _≤_}
+-- Before a boot no account has pages and no object stands, whatever is called: document 02, T-05 and T-06.
+use Prim.Native.Nat.{ℕ, zero, suc, _<_}
 use mathlib.Core.Path.{_≡_, refl, _∙_}
 use mathlib.Core.Bool.{true}
 use mathlib.Core.List.{List, [], _∷_}
+use mathlib.Core.Logic.{_⊎_, inl, inr}
 use native.Mathlib.Omega.{arith}
 use lib.ListN.{getD-replicate}
-use Rattle.bounded.specs.Sum.{total-none}
-use Rattle.state.specs.Places.{noObject, noEstate, freeObject, emptyEstate, noAccounts, emptyState, limitAt}
-use Rattle.state.specs.Pages.{estatePages, pagesOf}
+use borrow.Author.Tests.{eq-eqb}
+use Rattle.bounded.specs.Bools.{same-or-not}
+use Rattle.bounded.specs.Sum.{total, total-none}
+use Rattle.state.specs.Places.{noObject, noEstate, freeObject, emptyEstate, noAccounts, emptyState, objectAt, estateAt, limitAt}
+use Rattle.state.specs.Pages.{pagesOn, estatePages, pagesOf}
 use Rattle.state.specs.Laws.Pages.{none-on}
+use Rattle.state.specs.declared.Object.{Object}
 use Rattle.state.specs.declared.State.{State}
 use Rattle.soundness.specs.Sound.{sound}
 use Rattle.soundness.specs.Laws.Estates.{empty-sound}
+use Rattle.soundness.specs.Laws.ObjectParts.{object-parts}
+use Rattle.soundness.specs.Laws.StateParts.{state-parts, estate-parts}
 use Rattle.calls.specs.View.{World}
 use Rattle.calls.specs.Step.{worldOf}
 use Rattle.calls.specs.Runs.{Event, resultOf, final}
@@ -58,3 +64,28 @@ pub stays-unbooted : (w : World) (es : List Event) → Unbooted (w .state) → U
 unfolding final
 stays-unbooted w [] u = u
 stays-unbooted w (e ∷ es) u = stays-unbooted (worldOf (resultOf w e)) es (step-unbooted w e u)
+
+-- a part of a sum of 0
+none-of : (n : ℕ) (f : ℕ → ℕ) → total n f ≡ 0 → (i : ℕ) → i < n → f i ≡ 0
+unfolding total
+none-of zero f z i l = absurd (omega arith)
+none-of (suc n) f z i l = go (none-of n f (omega arith) i) (same-or-not i n)
+  where
+    go : (i < n → f i ≡ 0) → (i ≡ n) ⊎ (i ≡ n → ⊥) → f i ≡ 0
+    go h (inl e) = rw e (omega arith)
+    go h (inr ne) = h (omega arith)
+
+-- BEFORE A BOOT NO OBJECT STANDS: every place is free
+pub unbooted-free : (s : State) → Unbooted s → (d k : ℕ) → d < 4 → k < 8 → objectAt (estateAt (s .table) d) k .pages ≡ 0
+unfolding pagesOf estatePages
+unbooted-free s u d k l m = go (same-or-not (o .pages) 0)
+  where
+    o : Object
+    o = objectAt (estateAt (s .table) d) k
+
+    go : (o .pages ≡ 0) ⊎ (o .pages ≡ 0 → ⊥) → o .pages ≡ 0
+    go (inl z) = z
+    go (inr n) =
+        let b = object-parts o d (estate-parts _ d (state-parts s (u .is-sound) .estate d l) .object k m) .bounds (omega arith) in
+        let on : pagesOn (o .account) o ≡ 0 = none-of 8 _ (none-of 4 _ (u .figure (o .account) (b .account)) d l) k m in
+        rw (eq-eqb (o .account) (o .account) refl) at on

@@ -1,8 +1,7 @@
--- What the program writes where no boot was granted: document 02, T-05.
+-- The state behind an input in which no boot is granted: document 02, T-05 and T-06.
 use Prim.Native.Nat.{ℕ}
 use mathlib.Core.Path.{_≡_, refl}
 use mathlib.Core.List.{List, [], _∷_, foldl}
-use native.Mathlib.Omega.{arith}
 use lib.Dec.{eqb}
 use borrow.Author.Tests.{eqb-true}
 use Rattle.bounded.specs.Bools.{cond-ind}
@@ -16,11 +15,9 @@ use Rattle.calls.specs.declared.Answer.the-variants.{Done, Refused}
 use Rattle.runs.specs.Laws.Unbooted.{Unbooted, empty-unbooted, step-unbooted}
 use Rattle.lines.specs.Grammar.{lineOf}
 use Rattle.lines.specs.Reading.{Reading, unreadable, bootBy, callBy}
-use Rattle.text.specs.Decimal.{decimal, digitsIn}
 use Rattle.replies.specs.Reply.{reply, stateAfter}
 use Rattle.stream.specs.Run.{Progress, onByteBy, onByte, started}
-use Rattle.figures.specs.Lines.{figureLine, figureLines}
-use Rattle.accounts.specs.Figured.{figured}
+use Rattle.ending.specs.Behind.{behind}
 
 -- a line is a boot that is answered 0
 abbrev pub Boots : World → Reading → Type 0
@@ -50,10 +47,7 @@ bytes-unbooted (b ∷ bs) r n u =
     bytes-unbooted bs (onByte r b) (n .1)
     (cond-ind (λ (z : Progress). Unbooted (z .world .state)) (eqb b 10) _ _ (λ e. line-unbooted (r .world) (lineOf (r .line)) (n .0 (eqb-true b 10 e)) u) (λ e. u))
 
--- BEFORE A BOOT ALL FIGURES ARE 0: 0,0 and 1,0 and 2,0 and 3,0
-pub unbooted-figured : (input : List ℕ) → NoBoot started input
-    → figured input ≡ 48 ∷ 44 ∷ 48 ∷ 10 ∷ 49 ∷ 44 ∷ 48 ∷ 10 ∷ 50 ∷ 44 ∷ 48 ∷ 10 ∷ 51 ∷ 44 ∷ 48 ∷ 10 ∷ []
-unfolding figured figureLines figureLine started decimal digitsIn
-unbooted-figured input n =
-    let u = bytes-unbooted input started n empty-unbooted in
-    rw (u .figure 0 (omega arith), u .figure 1 (omega arith), u .figure 2 (omega arith), u .figure 3 (omega arith)) refl
+-- BEFORE A BOOT nothing stands on any account, and no object stands
+pub unbooted-behind : (input : List ℕ) → NoBoot started input → Unbooted (behind input .state)
+unfolding behind started
+unbooted-behind input n = bytes-unbooted input started n empty-unbooted
