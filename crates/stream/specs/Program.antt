@@ -17,7 +17,7 @@ use Rattle.calls.specs.declared.Answer.the-variants.{Done, Refused}
 use Rattle.lines.specs.Grammar.{lineOf}
 use Rattle.lines.specs.Reading.{Reading, unreadable, bootBy, callBy}
 use Rattle.replies.specs.Reply.{called, reply, stateAfter}
-use Rattle.stream.specs.Run.{Progress, lineDone, withLine, onByteBy, extended, header, started, lastLine, output}
+use Rattle.stream.specs.Run.{Progress, lineDone, withLine, onByteBy, extended, onByte, header, started, lastLine, output}
 use Rattle.stream.specs.Feed.{heldByte, onHeld, cut, joined}
 use Rattle.stream.specs.Held.{cut-run, cut-last}
 use Rattle.stream.specs.Pieces.{writtenFor, pieces-whole}
@@ -59,9 +59,17 @@ module _ (more : List ℕ → ℕ → List ℕ) where
   run-unchecked (b ∷ s) r h =
       ap (λ (z : Progress). foldl (onByteBy unchecked more) z s) (byte-unchecked r b h) ∙ run-unchecked s (onByteBy step more r b) (byte-sound r b h)
 
+  run-sound : (s : List ℕ) (r : Progress) → sound (r .world .state) ≡ true → sound (foldl (onByteBy step more) r s .world .state) ≡ true
+  run-sound [] r h = h
+  run-sound (b ∷ s) r h = run-sound s (onByteBy step more r b) (byte-sound r b h)
+
 started-sound : sound (started .world .state) ≡ true
 unfolding started
 started-sound = empty-sound
+
+-- THE STATE BEHIND ANY INPUT IS SOUND
+pub input-sound : (s : List ℕ) → sound (foldl onByte started s .world .state) ≡ true
+input-sound s = run-sound extended s started started-sound
 
 started-cut : cut started ≡ started
 unfolding started
