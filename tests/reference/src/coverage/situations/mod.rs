@@ -9,6 +9,7 @@ mod judging;
 mod lists;
 mod modes;
 mod objects;
+mod order;
 mod passwords;
 mod procedures;
 mod registrations;
@@ -22,7 +23,7 @@ use crate::monitor::*;
 /// A situation's name, and whether a call is in it.
 pub type Situation = (&'static str, fn(&Seen) -> bool);
 
-const GROUPS: [&[Situation]; 15] = [
+const GROUPS: [&[Situation]; 16] = [
     boots::BOOTS,
     boot_accounts::BOOT_ACCOUNTS,
     accounts::ACCOUNTS_CHARGED,
@@ -32,6 +33,7 @@ const GROUPS: [&[Situation]; 15] = [
     ends::ENDS,
     objects::OBJECTS,
     passwords::PASSWORDS,
+    order::ORDER,
     modes::MODES,
     registrations::REGISTRATIONS,
     slots::SLOTS,
