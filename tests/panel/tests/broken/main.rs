@@ -3,6 +3,7 @@
 mod accounts;
 mod images;
 mod lengths;
+mod order;
 mod states;
 mod values;
 
@@ -102,6 +103,16 @@ fn faults_with_lengths() {
 #[test]
 fn faults_with_images() {
     each_is_found(&images::FAULTS);
+}
+
+#[test]
+fn faults_in_the_order_written() {
+    each_is_found(&order::WRITING);
+}
+
+#[test]
+fn faults_in_the_order_read() {
+    each_is_found(&order::READING);
 }
 
 #[test]
