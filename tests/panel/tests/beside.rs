@@ -3,7 +3,7 @@
 
 use panel::checks::{play, play_displaced};
 use panel::real;
-use refmonitor::coverage::{Coverage, TABLE};
+use refmonitor::coverage::{Coverage, ORDER, TABLE};
 use refmonitor::{cases, inputs};
 
 const SEEDS: std::ops::RangeInclusive<u64> = 1..=10;
@@ -13,7 +13,8 @@ fn plays(name: &str, input: &[u8]) -> usize {
     play(&real, input).unwrap_or_else(|what| panic!("{name}: {what}"))
 }
 
-/// Every pair of call and answer that can occur is met.
+/// Every pair of call and answer that can occur is met, and every way in which
+/// objects and passwords come and go among others.
 #[test]
 fn generated_calls() {
     let (mut coverage, mut calls) = (Coverage::new(), 0);
@@ -30,6 +31,9 @@ fn generated_calls() {
                 "{letters} with answer {answer}"
             );
         }
+    }
+    for (name, _) in ORDER {
+        assert!(coverage.situation(name) > 0, "{name}");
     }
 }
 

@@ -16,6 +16,8 @@ mod registrations;
 mod slots;
 mod whole_lock;
 
+pub use order::ORDER;
+
 use super::charges::Deletion;
 use super::seen::Seen;
 use crate::monitor::*;

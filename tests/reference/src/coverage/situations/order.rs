@@ -69,7 +69,7 @@ fn newest(s: &Seen) -> Option<(u64, u64)> {
 }
 
 #[rustfmt::skip]
-pub(super) const ORDER: &[Situation] = &[
+pub const ORDER: &[Situation] = &[
     ("CR in front of the estate's objects", |s| made(s, Stand::First, false)),
     ("CR between two objects", |s| made(s, Stand::Middle, false)),
     ("CR behind the estate's objects", |s| made(s, Stand::Last, false)),
