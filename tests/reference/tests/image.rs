@@ -207,52 +207,17 @@ fn passwords(image: &mut [u8]) -> &mut [u8] {
 
 /// Objects stand by rising base in the first places, and passwords in the first
 /// places; which password is the older one is open.
+#[rustfmt::skip]
 const MOVED: [Moved; 9] = [
-    (
-        "bases fall",
-        |image| image[OBJECT..FREE].rotate_left(65),
-        false,
-    ),
-    (
-        "bases are equal",
-        |image| image.copy_within(OBJECT..NEXT, NEXT),
-        false,
-    ),
-    (
-        "the first place is free",
-        |image| image[OBJECT..FREE + 65].rotate_right(65),
-        false,
-    ),
-    (
-        "a place between is free",
-        |image| image[NEXT..FREE + 65].rotate_right(65),
-        false,
-    ),
-    (
-        "the last place is used",
-        |image| image[NEXT..OBJECT + 520].rotate_left(65),
-        false,
-    ),
-    (
-        "passwords in the other order",
-        |image| passwords(image)[..18].rotate_left(9),
-        true,
-    ),
-    (
-        "a password in the third place",
-        |image| passwords(image)[9..27].rotate_left(9),
-        false,
-    ),
-    (
-        "the first password's place is free",
-        |image| passwords(image).rotate_right(9),
-        false,
-    ),
-    (
-        "a password in the last place",
-        |image| passwords(image)[9..].rotate_left(9),
-        false,
-    ),
+    ("bases fall", |image| image[OBJECT..FREE].rotate_left(65), false),
+    ("bases are equal", |image| image.copy_within(OBJECT..NEXT, NEXT), false),
+    ("the first place is free", |image| image[OBJECT..FREE + 65].rotate_right(65), false),
+    ("a place between is free", |image| image[NEXT..FREE + 65].rotate_right(65), false),
+    ("the last place is used", |image| image[NEXT..OBJECT + 520].rotate_left(65), false),
+    ("passwords in the other order", |image| passwords(image)[..18].rotate_left(9), true),
+    ("a password in the third place", |image| passwords(image)[9..27].rotate_left(9), false),
+    ("the first password's place is free", |image| passwords(image).rotate_right(9), false),
+    ("a password in the last place", |image| passwords(image)[9..].rotate_left(9), false),
 ];
 
 #[test]
