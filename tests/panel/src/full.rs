@@ -2,7 +2,6 @@
 
 #[cfg(test)]
 use refmonitor::image::{decode, encode};
-use refmonitor::image::{Placed, PlacedObject};
 use refmonitor::monitor::*;
 
 /// The pages of each of an estate's eight objects.
@@ -33,19 +32,16 @@ fn account(base: u64) -> u64 {
     1 + base / SIZE % 3
 }
 
-fn object(base: u64) -> PlacedObject {
-    let mut passwords = [None; MAX_PASSWORDS];
-    for (number, place) in passwords.iter_mut().enumerate() {
-        *place = Some(Password {
-            word: password(base, number),
-            mode: MODES[number],
-        });
-    }
+fn object(base: u64) -> Object {
+    let passwords = MODES.iter().enumerate().map(|(number, &mode)| Password {
+        word: password(base, number),
+        mode,
+    });
     let entries = (0..MAX_ENTRIES as u64).map(|k| (base + k) * PAGE_WORDS + k);
-    PlacedObject {
+    Object {
         base,
         pages: SIZE,
-        passwords,
+        passwords: passwords.collect(),
         registration: Some(Registration {
             password: password(base, MAX_PASSWORDS),
             list: list(base),
@@ -73,16 +69,16 @@ const SETS: [u64; DOMAINS] = [6, MAX_SET, 8, 11];
 
 /// Eight objects in every estate, each with four passwords and a registration
 /// with four entries; eight slots and four saved frames in every domain.
-pub fn full() -> Placed {
-    let mut state = Placed {
+pub fn full() -> Monitor {
+    let mut state = Monitor {
         limits: LIMITS,
         sets: SETS,
-        ..Placed::default()
+        store: store(),
+        ..Monitor::new()
     };
     for d in 0..DOMAINS {
-        for place in 0..MAX_OBJECTS {
-            state.estates[d][place] = Some(object(base(d, place)));
-        }
+        let objects = (0..MAX_OBJECTS).map(|place| object(base(d, place)));
+        state.objects.extend(objects);
         state.domains[d] = Domain {
             now: frame(d, 3, false),
             saved: vec![frame(d, MAX_SLOTS, true); MAX_SAVED],
@@ -93,7 +89,7 @@ pub fn full() -> Placed {
 
 /// Each object's first pair owns it; the second pair of an estate's first
 /// object owns the last one.
-pub fn store() -> Vec<u64> {
+fn store() -> Vec<u64> {
     let mut store = vec![0; WORDS as usize];
     let mut pair = |at: u64, named: u64| {
         store[at as usize] = named * 256 + OWNER;
@@ -111,9 +107,12 @@ pub fn store() -> Vec<u64> {
 
 #[test]
 fn the_full_state_reads() {
-    let image = encode(&full());
-    assert_eq!(decode(&image).as_ref(), Some(&full()));
-    let monitor = full().monitor(store());
-    assert!(monitor.is_sound());
-    assert_eq!(monitor.figures(), [0, 44, 44, 40]);
+    let full = full();
+    assert!(full.is_sound());
+    let read = decode(&encode(&full)).map(|state| Monitor {
+        store: store(),
+        ..state
+    });
+    assert_eq!(full.figures(), [0, 44, 44, 40]);
+    assert_eq!(read, Some(full));
 }

@@ -1,6 +1,6 @@
 //! Calls on the full state whose cost is counted.
 
-use crate::full::{full, store};
+use crate::full::full;
 #[cfg(test)]
 use crate::slices::real;
 use crate::slices::Slices;
@@ -65,13 +65,14 @@ impl Kind {
 
     /// The full state, with the image of the kind.
     pub fn slices(&self) -> Slices {
-        let mut image = encode(&full());
+        let full = full();
+        let mut image = encode(&full);
         match self.image {
             Image::Full => {}
             Image::Short => drop(image.pop()),
             Image::Last => *image.last_mut().expect("bytes") = 16,
         }
-        Slices::new(&image, &store_bytes(&store()))
+        Slices::new(&image, &store_bytes(&full.store))
     }
 }
 

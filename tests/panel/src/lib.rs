@@ -3,8 +3,8 @@
 mod answer;
 mod client;
 mod guarded;
+mod places;
 mod raw;
-mod scatter;
 mod slices;
 
 pub mod checks;
@@ -16,6 +16,6 @@ pub mod stage;
 pub use answer::{expected, number};
 pub use client::answer;
 pub use guarded::Guarded;
+pub use places::Places;
 pub use raw::raw;
-pub use scatter::scattered;
 pub use slices::{real, Panel, Slices, UNTOUCHED};

@@ -2,7 +2,7 @@
 
 use crate::guarded::Guarded;
 use crate::raw::raw;
-use refmonitor::image::{encode, store_bytes, Placed};
+use refmonitor::image::{encode, store_bytes};
 use refmonitor::monitor::{Call, Monitor};
 use reshqobi::VALUES_BYTES;
 
@@ -42,8 +42,7 @@ impl Slices {
 
     /// The image and the store of a monitor.
     pub fn of(monitor: &Monitor) -> Self {
-        let image = encode(&Placed::of(monitor));
-        Slices::new(&image, &store_bytes(&monitor.store))
+        Slices::new(&encode(monitor), &store_bytes(&monitor.store))
     }
 
     /// One call; the values are marked as untouched before it. An error where

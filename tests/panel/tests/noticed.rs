@@ -1,42 +1,47 @@
-//! An image or a store that is wrong in one field is noticed; other places of
-//! objects and passwords are not wrong.
+//! An image or a store that is wrong in one field is noticed, and so are other
+//! places of objects and passwords.
 
 use panel::checks::same_state;
-use panel::{full, scattered};
-use refmonitor::image::{encode, store_bytes, Placed, PlacedObject};
-use refmonitor::monitor::{Frame, Monitor, Registration};
+use panel::{full, Places};
+use refmonitor::image::{encode, store_bytes};
+use refmonitor::monitor::{Frame, Monitor, Object, Registration};
 use refmonitor::random::Random;
 
-fn object(state: &mut Placed) -> &mut PlacedObject {
-    state.estates[1][2].as_mut().unwrap()
+/// The third object of domain 1's estate.
+const OBJECT: usize = 10;
+
+fn object(state: &mut Monitor) -> &mut Object {
+    &mut state.objects[OBJECT]
 }
 
-fn registration(state: &mut Placed) -> &mut Registration {
+fn registration(state: &mut Monitor) -> &mut Registration {
     object(state).registration.as_mut().unwrap()
 }
 
-fn frame(state: &mut Placed) -> &mut Frame {
+fn frame(state: &mut Monitor) -> &mut Frame {
     &mut state.domains[2].now
 }
 
-type Change = fn(&mut Placed);
+type Change = fn(&mut Monitor);
 
-const CHANGES: [(&str, Change); 29] = [
-    ("the object is gone", |s| s.estates[1][2] = None),
+const CHANGES: [(&str, Change); 31] = [
+    ("the object is gone", |s| drop(s.objects.remove(OBJECT))),
     ("a page less", |s| {
         registration(s).entries.pop();
         object(s).pages -= 1;
     }),
-    ("a password more", |s| {
-        object(s).passwords[1].as_mut().unwrap().word += 100
-    }),
-    ("a password less", |s| object(s).passwords[3] = None),
-    ("another mode", |s| {
-        object(s).passwords[1].as_mut().unwrap().mode = 2
-    }),
+    ("a password more", |s| object(s).passwords[1].word += 100),
+    ("a password less", |s| object(s).passwords.truncate(3)),
+    ("another mode", |s| object(s).passwords[1].mode = 2),
     ("two modes swapped", |s| {
-        let [a, b, ..] = &mut object(s).passwords;
-        std::mem::swap(&mut a.as_mut().unwrap().mode, &mut b.as_mut().unwrap().mode);
+        let [a, b, ..] = &mut object(s).passwords[..] else {
+            panic!("no two passwords");
+        };
+        std::mem::swap(&mut a.mode, &mut b.mode);
+    }),
+    ("two passwords swapped", |s| object(s).passwords.swap(1, 2)),
+    ("the oldest password is the newest", |s| {
+        object(s).passwords.rotate_left(1)
     }),
     ("no registration", |s| object(s).registration = None),
     ("its password", |s| registration(s).password += 100),
@@ -64,11 +69,10 @@ const CHANGES: [(&str, Change); 29] = [
     ("two domains swapped", |s| s.domains.swap(0, 3)),
     ("another account", |s| object(s).account ^= 1),
     ("two accounts swapped", |s| {
-        let [.., a, b] = &mut s.estates[3];
-        std::mem::swap(
-            &mut a.as_mut().unwrap().account,
-            &mut b.as_mut().unwrap().account,
-        );
+        let [.., a, b] = &mut s.objects[..] else {
+            panic!("no two objects");
+        };
+        std::mem::swap(&mut a.account, &mut b.account);
     }),
     ("a page less of a limit", |s| s.limits[3] -= 1),
     ("no limit", |s| s.limits[0] = 0),
@@ -78,7 +82,7 @@ const CHANGES: [(&str, Change); 29] = [
 ];
 
 /// The full state, with saved domains that differ.
-fn state() -> Placed {
+fn state() -> Monitor {
     let mut state = full::full();
     for (k, frame) in state.domains[3].saved.iter_mut().enumerate() {
         frame.locked = k;
@@ -86,40 +90,49 @@ fn state() -> Placed {
     state
 }
 
-fn beside() -> Monitor {
-    state().monitor(full::store())
+/// Whether an image and a store are taken for those of the state.
+fn same(image: &[u8], store: &[u8]) -> bool {
+    same_state(image, store, &state()).is_ok()
 }
 
 #[test]
 fn a_wrong_field() {
-    let store = store_bytes(&full::store());
+    let store = store_bytes(&state().store);
+    assert_eq!(same_state(&encode(&state()), &store, &state()), Ok(()));
     for (name, change) in CHANGES {
         let mut wrong = state();
         change(&mut wrong);
-        let same = same_state(&encode(&wrong), &store, &beside());
-        assert!(same.is_err(), "not noticed: {name}");
+        assert!(!same(&encode(&wrong), &store), "not noticed: {name}");
     }
 }
 
 #[test]
 fn a_wrong_word_or_byte() {
-    let (image, store) = (encode(&state()), store_bytes(&full::store()));
-    assert_eq!(same_state(&image, &store, &beside()), Ok(()));
+    let (image, store) = (encode(&state()), store_bytes(&state().store));
     for at in [0, 7, 8, 4_096, 65_535] {
         let mut wrong = store.clone();
         wrong[at] ^= 1;
-        assert!(same_state(&image, &wrong, &beside()).is_err(), "{at}");
+        assert!(!same(&image, &wrong), "{at}");
     }
-    assert!(same_state(&image, &store[..65_528], &beside()).is_err());
-    assert!(same_state(&image[1..], &store, &beside()).is_err());
+    for at in 0..image.len() {
+        let mut wrong = image.clone();
+        wrong[at] ^= 1;
+        assert!(!same(&wrong, &store), "{at}");
+    }
+    assert!(!same(&image, &store[..65_528]));
+    assert!(!same(&image[1..], &store));
+    assert!(!same(&image[..image.len() - 1], &store));
 }
 
 #[test]
-fn other_places_are_the_same_state() {
-    let (store, mut random) = (store_bytes(&full::store()), Random::new(1));
-    for _ in 0..100 {
-        let image = encode(&scattered(&state(), &mut random));
-        assert_ne!(image, encode(&state()));
-        assert_eq!(same_state(&image, &store, &beside()), Ok(()));
+fn other_places() {
+    let (image, store) = (encode(&state()), store_bytes(&state().store));
+    let mut random = Random::new(1);
+    for places in Places::all() {
+        let mut wrong = image.clone();
+        while wrong == image {
+            places.shuffle(&mut wrong, &mut random);
+        }
+        assert!(!same(&wrong, &store));
     }
 }

@@ -1,13 +1,12 @@
 //! What the slices may be: wrong lengths, changed bytes, junk before a boot.
 
-use panel::checks::{boots, charges, copied, flipped, lengths, unreadable, Beside, Flipped};
+use panel::checks::{boots, charges, copied, displaced, flipped, lengths};
+use panel::checks::{unreadable, Beside, Flipped};
 use panel::stage::stage;
-use panel::{full, real, scattered, Slices};
-use refmonitor::image::{encode, store_bytes, Placed};
+use panel::{full, real, Slices};
 use refmonitor::inputs;
 use refmonitor::lines::calls;
 use refmonitor::monitor::Monitor;
-use refmonitor::random::Random;
 
 #[test]
 fn wrong_lengths() {
@@ -93,6 +92,7 @@ fn flips((slices, store): (Slices, Vec<u64>), name: &str) {
     for found in [
         flipped(&real, &slices, &store),
         copied(&real, &slices, &store, 1, 3_000),
+        displaced(&real, &slices, &store, 1, 1_000),
     ] {
         let Flipped { read, refused } = found.unwrap_or_else(|what| panic!("{name}: {what}"));
         let both = read > 100 && refused > 100;
@@ -108,22 +108,9 @@ fn changed_bytes_of_generated_states() {
 }
 
 #[test]
-fn changed_bytes_of_scattered_states() {
-    for (seed, lines) in [(34, 500), (35, 2_000)] {
-        let mut monitor = Monitor::new();
-        for (domain, call) in calls(&inputs::input(seed, lines)) {
-            let _ = monitor.call(domain, &call);
-        }
-        let state = scattered(&Placed::of(&monitor), &mut Random::new(seed));
-        let slices = Slices::new(&encode(&state), &store_bytes(&monitor.store));
-        flips((slices, monitor.store), &format!("seed {seed}"));
-    }
-}
-
-#[test]
 fn changed_bytes_of_the_full_state() {
-    let (image, store) = (encode(&full::full()), full::store());
-    flips((Slices::new(&image, &store_bytes(&store)), store), "full");
+    let full = full::full();
+    flips((Slices::of(&full), full.store), "full");
 }
 
 #[test]

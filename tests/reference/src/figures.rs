@@ -1,14 +1,18 @@
-//! The program `accounts`: it reads call lines as the call program does and
-//! prints no answers, but at the end the pages of each account.
+//! What the program `accounts` prints: the pages of each account.
 
-use crate::lines::{self, number};
+use crate::at_end;
+use crate::lines::number;
 use crate::monitor::{Monitor, ACCOUNTS};
-use std::io::{self, BufRead, Write};
 
 /// The figures in print: a line for each account, rising.
 pub fn text(figures: [u64; ACCOUNTS]) -> String {
     let lines = figures.iter().enumerate();
     lines.map(|(a, pages)| format!("{a},{pages}\n")).collect()
+}
+
+/// What is printed of a state.
+pub fn printed(monitor: &Monitor) -> String {
+    text(monitor.figures())
 }
 
 /// Four lines, each an account in its place and a number. It does not ask what
@@ -24,18 +28,7 @@ pub fn in_form(output: &[u8]) -> bool {
     lines.len() == ACCOUNTS && lines.iter().enumerate().all(|(a, line)| in_form(a, line))
 }
 
-/// The program.
-pub fn run<I: BufRead, O: Write>(input: I, output: &mut O) -> io::Result<()> {
-    let mut monitor = Monitor::new();
-    let answer = |domain, call: &_| monitor.call(domain, call);
-    lines::run_with(input, &mut io::sink(), answer)?;
-    output.write_all(text(monitor.figures()).as_bytes())?;
-    output.flush()
-}
-
 /// The program over bytes in memory.
 pub fn run_bytes(input: &[u8]) -> Vec<u8> {
-    let mut output = Vec::new();
-    run(input, &mut output).expect("memory does not fail");
-    output
+    at_end::run_bytes(printed, input)
 }

@@ -1,5 +1,6 @@
 //! A second implementation of the call program, by documents 01 and 02.
 
+pub mod at_end;
 pub mod callgrind;
 pub mod cases;
 pub mod compare;
@@ -13,6 +14,7 @@ pub mod inputs;
 pub mod lines;
 pub mod modes;
 pub mod monitor;
+pub mod objects;
 pub mod random;
 pub mod short_list;
 pub mod table;

@@ -1,13 +1,9 @@
-//! Accounts over generated runs, and the program that prints them.
+//! Accounts over generated runs.
 
-use refmonitor::compare::{run_program, Feed, Ran};
-use refmonitor::figures::{run_bytes, text};
 use refmonitor::inputs;
 use refmonitor::lines::calls;
 use refmonitor::monitor::*;
 use std::collections::BTreeSet;
-use std::fs;
-use std::path::Path;
 
 /// The pages of granted creations since the boot, homes included, less those of
 /// granted deletions, are those of the objects that stand.
@@ -131,35 +127,4 @@ fn sound_limits_and_sets() {
         change(&mut other);
         assert!(!other.is_sound());
     }
-}
-
-#[test]
-fn accounts_as_a_process() {
-    let program = env!("CARGO_BIN_EXE_accounts");
-    for seed in [3, 4, 5] {
-        let input = inputs::input(seed, 700);
-        for feed in [Feed::File, Feed::Pipe, Feed::Pieces(100)] {
-            let ran = run_program(program, &input, feed).unwrap();
-            assert_eq!(ran, Ran::well(run_bytes(&input)));
-        }
-    }
-    let ran = run_program(program, b"", Feed::Pipe).unwrap();
-    assert_eq!(ran, Ran::well(text([0; ACCOUNTS]).into()));
-}
-
-/// The figures beside each example.
-#[test]
-fn figures_of_the_examples() {
-    let folder = Path::new(env!("CARGO_MANIFEST_DIR")).join("../../examples");
-    let mut count = 0;
-    for entry in fs::read_dir(folder).unwrap() {
-        let path = entry.unwrap().path();
-        if path.extension().is_some_and(|kind| kind == "calls") {
-            let figures = fs::read(path.with_extension("figures")).unwrap();
-            let printed = run_bytes(&fs::read(&path).unwrap());
-            assert_eq!(figures, printed, "{}", path.display());
-            count += 1;
-        }
-    }
-    assert!(count >= 6);
 }

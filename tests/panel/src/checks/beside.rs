@@ -1,13 +1,13 @@
 //! Calls beside the second implementation.
 
-use super::{known, same_state};
+use super::{known, refused, same_state};
 use crate::answer::expected;
-use crate::scatter::scattered;
+use crate::places::Places;
 use crate::slices::{Panel, Slices};
-use refmonitor::image::{decode, encode};
 use refmonitor::lines::calls;
 use refmonitor::monitor::{Call, Monitor};
 use refmonitor::random::Random;
+use reshqobi::Refusal;
 
 /// A way of calling and the second implementation, both in the same state.
 pub struct Beside<'a> {
@@ -57,27 +57,41 @@ impl<'a> Beside<'a> {
         }
     }
 
-    /// Puts the objects and passwords of the image into other places.
-    fn scatter(&mut self, random: &mut Random) -> Result<(), String> {
-        let image = self.slices.image.bytes_mut();
-        let state = decode(image).ok_or("the image does not read")?;
-        image.copy_from_slice(&encode(&scattered(&state, random)));
-        Ok(())
+    /// The call on the image with some places in another order, if it does not
+    /// read then: it is refused, and leaves it. Whether it was tried.
+    fn displaced(&self, domain: u64, call: &Call, random: &mut Random) -> Result<bool, String> {
+        let mut slices = self.slices.clone();
+        let places = random.pick(&Places::all());
+        let image = slices.image.bytes_mut();
+        places.shuffle(image, random);
+        if places.read(image, self.slices.image.bytes()) {
+            return Ok(false);
+        }
+        let number = Refusal::Unreadable.number();
+        refused(&mut slices, self.panel, (domain, call), number)?;
+        Ok(true)
     }
 }
 
-/// The calls of an input, one after the other; how many they were. With a
-/// seed, objects and passwords change their places now and then.
-pub fn play(panel: Panel, input: &[u8], seed: Option<u64>) -> Result<usize, String> {
+/// The calls of an input, one after the other; how many they were.
+pub fn play(panel: Panel, input: &[u8]) -> Result<usize, String> {
     let (mut beside, calls) = (Beside::new(panel), calls(input));
-    let mut random = seed.map(Random::new);
     for (domain, call) in &calls {
-        if let Some(random) = random.as_mut() {
-            if random.percent(10) {
-                beside.scatter(random)?;
-            }
-        }
         beside.call(*domain, call)?;
     }
     Ok(calls.len())
+}
+
+/// The same, and each call but BT before on an image with some places in another
+/// order. How many of these did not read.
+pub fn play_displaced(panel: Panel, input: &[u8], seed: u64) -> Result<usize, String> {
+    let (mut beside, mut random) = (Beside::new(panel), Random::new(seed));
+    let mut count = 0;
+    for (domain, call) in calls(input) {
+        if !matches!(call, Call::Bt { .. }) {
+            count += usize::from(beside.displaced(domain, &call, &mut random)?);
+        }
+        beside.call(domain, &call)?;
+    }
+    Ok(count)
 }

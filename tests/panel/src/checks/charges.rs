@@ -74,7 +74,8 @@ impl Charges {
         let Some(state) = decode(slices.image.bytes()) else {
             return Ok(());
         };
-        let second = state.monitor(store.to_vec());
+        let store = store.to_vec();
+        let second = Monitor { store, ..state };
         let mut accounts = second.figures().into_iter().zip(second.limits);
         self.above += usize::from(accounts.any(|(charged, limit)| charged > limit));
         self.create(panel, &slices, &second)

@@ -4,9 +4,7 @@
 use super::{known, refused};
 use crate::answer::expected;
 use crate::slices::{Panel, Slices};
-use crate::stage::{sixteen, stage};
-use refmonitor::image::{decode, Placed, DOMAINS_AT, DOMAIN_BYTES, IMAGE_BYTES};
-use refmonitor::image::{LIMITS_AT, SETS_AT};
+use refmonitor::image::{decode, DOMAINS_AT, DOMAIN_BYTES, IMAGE_BYTES};
 use refmonitor::monitor::{Call, Monitor, WHOLE};
 use reshqobi::Refusal;
 
@@ -18,7 +16,7 @@ pub struct Flipped {
 }
 
 /// Where the whole lock of a domain stands.
-fn whole_lock(domain: usize) -> usize {
+pub(super) fn whole_lock(domain: usize) -> usize {
     DOMAINS_AT + DOMAIN_BYTES * domain + 74
 }
 
@@ -44,11 +42,12 @@ fn others(byte: u8, at: usize) -> Vec<u8> {
 fn reads(
     panel: Panel,
     slices: &mut Slices,
-    state: &Placed,
+    state: Monitor,
     store: &[u64],
     turn: usize,
 ) -> Result<(), String> {
-    let mut second: Monitor = state.monitor(store.to_vec());
+    let store = store.to_vec();
+    let mut second = Monitor { store, ..state };
     if !second.is_sound() {
         return Err("an image reads as a state that is not sound".to_string());
     }
@@ -98,7 +97,7 @@ impl Flipped {
         match decode(slices.image.bytes()) {
             Some(state) => {
                 self.read += 1;
-                reads(panel, &mut slices, &state, store, turn)
+                reads(panel, &mut slices, state, store, turn)
             }
             None => {
                 self.refused += 1;
@@ -121,41 +120,4 @@ pub fn flipped(panel: Panel, whole: &Slices, store: &[u64]) -> Result<Flipped, S
         }
     }
     Ok(found)
-}
-
-/// All calls but BT on images that do not read for one reason each.
-pub fn unreadable(panel: Panel) -> Result<(), String> {
-    let stage = Slices::of(&stage());
-    for (at, byte) in [
-        (1, 33),
-        (10, 16),
-        (63, 1),
-        (64, 4),
-        (DOMAINS_AT - 2, 1),
-        (DOMAINS_AT - 1, 1),
-        (whole_lock(0), 2),
-        (whole_lock(3) + 1, 1),
-        (LIMITS_AT - 1, 5),
-        (LIMITS_AT + 1, 129),
-        (SETS_AT + 3, 16),
-    ] {
-        let mut slices = stage.clone();
-        slices.image.bytes_mut()[at] = byte;
-        if decode(slices.image.bytes()).is_some() {
-            return Err(format!("{byte} at {at} reads"));
-        }
-        for call in sixteen() {
-            if !matches!(call, Call::Bt { .. }) {
-                for domain in [0, 4] {
-                    refused(
-                        &mut slices,
-                        panel,
-                        (domain, &call),
-                        Refusal::Unreadable.number(),
-                    )?;
-                }
-            }
-        }
-    }
-    Ok(())
 }

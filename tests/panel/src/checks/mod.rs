@@ -4,17 +4,21 @@ mod beside;
 mod boots;
 mod charges;
 mod copied;
+mod displaced;
 mod flipped;
 mod lengths;
 mod state;
+mod unreadable;
 
-pub use beside::{play, Beside};
+pub use beside::{play, play_displaced, Beside};
 pub use boots::boots;
 pub use charges::{charges, Charges};
 pub use copied::copied;
-pub use flipped::{flipped, unreadable, Flipped};
+pub use displaced::displaced;
+pub use flipped::{flipped, Flipped};
 pub use lengths::lengths;
 pub use state::same_state;
+pub use unreadable::unreadable;
 
 use crate::slices::{Panel, Slices};
 use refmonitor::monitor::Call;

@@ -1,18 +1,18 @@
 //! An image and a store beside the second implementation's state.
 
-use refmonitor::image::{decode, encode, STORE_BYTES};
+use refmonitor::image::{encode, STORE_BYTES};
 use refmonitor::monitor::Monitor;
 
-/// Whether the image reads as the state of the second implementation, places
-/// apart, and is what is written for it; and whether the store's words are the
-/// same.
+/// Whether image and store are, byte for byte, those of the second
+/// implementation's state.
 pub fn same_state(image: &[u8], store: &[u8], second: &Monitor) -> Result<(), String> {
-    let state = decode(image).ok_or("the image does not read")?;
-    if let Some(difference) = state.difference(second) {
-        return Err(difference);
+    let written = encode(second);
+    if image.len() != written.len() {
+        return Err(format!("an image of {} bytes", image.len()));
     }
-    if encode(&state) != image {
-        return Err("another image is written for its state".to_string());
+    if let Some(at) = (0..written.len()).find(|&at| image[at] != written[at]) {
+        let (got, wanted) = (image[at], written[at]);
+        return Err(format!("byte {at} of the image is {got}, not {wanted}"));
     }
     if store.len() != STORE_BYTES {
         return Err(format!("a store of {} bytes", store.len()));

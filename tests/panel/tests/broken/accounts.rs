@@ -7,7 +7,7 @@ use reshqobi::Plan;
 
 /// The state of the image, if it reads.
 fn state(slices: &Slices) -> Option<Monitor> {
-    Some(decode(slices.image.bytes())?.monitor(Vec::new()))
+    decode(slices.image.bytes())
 }
 
 /// The call with another image, which is then as before in these bytes.

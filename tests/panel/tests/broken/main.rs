@@ -3,10 +3,11 @@
 mod accounts;
 mod images;
 mod lengths;
+mod order;
 mod states;
 mod values;
 
-use panel::checks::{boots, charges, flipped, lengths, play, unreadable};
+use panel::checks::{boots, charges, flipped, lengths, play, play_displaced, unreadable};
 use panel::stage::stage;
 use panel::{real, Panel, Slices};
 use refmonitor::monitor::Call;
@@ -20,16 +21,16 @@ type Broken = fn(&mut Slices, u64, &Call) -> u64;
 type Fault = (&'static str, Check, Broken);
 
 fn played(panel: Panel) -> Result<(), String> {
-    play(panel, &inputs::input(7, 2_000), None).map(drop)
+    play(panel, &inputs::input(7, 2_000)).map(drop)
 }
 
-fn played_in_changing_places(panel: Panel) -> Result<(), String> {
-    play(panel, &inputs::input(7, 2_000), Some(7)).map(drop)
+fn played_in_other_places(panel: Panel) -> Result<(), String> {
+    play_displaced(panel, &inputs::input(7, 2_000), 7).map(drop)
 }
 
 fn written_cases(panel: Panel) -> Result<(), String> {
     let mut cases = cases::all().into_iter();
-    cases.try_for_each(|case| play(panel, &case.input, None).map(drop))
+    cases.try_for_each(|case| play(panel, &case.input).map(drop))
 }
 
 fn wrong_lengths(panel: Panel) -> Result<(), String> {
@@ -102,6 +103,16 @@ fn faults_with_lengths() {
 #[test]
 fn faults_with_images() {
     each_is_found(&images::FAULTS);
+}
+
+#[test]
+fn faults_in_the_order_written() {
+    each_is_found(&order::WRITING);
+}
+
+#[test]
+fn faults_in_the_order_read() {
+    each_is_found(&order::READING);
 }
 
 #[test]

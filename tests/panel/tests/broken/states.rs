@@ -3,7 +3,7 @@
 use super::*;
 use refmonitor::image::{DOMAINS_AT, DOMAIN_BYTES, OBJECT_BYTES};
 
-pub const FAULTS: [Fault; 9] = [
+pub const FAULTS: [Fault; 8] = [
     ("a refusal writes the image", played, |s, d, c| {
         and(s, d, c, |a, _, s| {
             if a == 7 {
@@ -51,15 +51,4 @@ pub const FAULTS: [Fault; 9] = [
         Call::Rg { entries, .. } if (1..4).contains(&entries.len()) => 5,
         _ => real(s, d, c),
     }),
-    (
-        "gaps do not read",
-        played_in_changing_places,
-        |s, d, c| match s.image.bytes().get(1) == Some(&0)
-            && s.image.bytes().iter().any(|&b| b > 0)
-            && !boot(c)
-        {
-            true => 13,
-            false => real(s, d, c),
-        },
-    ),
 ];

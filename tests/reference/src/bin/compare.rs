@@ -1,26 +1,19 @@
-//! `compare [--accounts] PROGRAM [SEEDS] [LINES] [FIRST]`: another call program,
-//! or another program `accounts`, against this one. Status 1 for a difference,
-//! and where the generated lines did not reach all that they should.
+//! `compare [--accounts | --objects] PROGRAM [SEEDS] [LINES] [FIRST]`: another call
+//! program, or another program `accounts` or `objects`, against this one. Status 1
+//! for a difference, and where the generated lines did not reach all that they
+//! should.
 
-use refmonitor::compare::{self, Compared, Plan, Ran, Reference, ANSWERS, FIGURES};
+use refmonitor::compare::{self, Compared, Plan, Ran, Reference};
 use std::process::ExitCode;
 use std::time::Duration;
 
 /// How long differing inputs are shortened, at most.
 const SHRINKING: Duration = Duration::from_secs(40);
 
-/// What the first word asks for, if it is an option.
-fn reference(args: &mut Vec<String>) -> Reference {
-    if args.first().is_some_and(|word| word == "--accounts") {
-        args.remove(0);
-        return FIGURES;
-    }
-    ANSWERS
-}
-
 fn main() -> ExitCode {
-    let mut args: Vec<String> = std::env::args().skip(1).collect();
-    let reference = reference(&mut args);
+    let args: Vec<String> = std::env::args().skip(1).collect();
+    let words: Vec<&str> = args.iter().map(String::as_str).collect();
+    let (reference, args) = Reference::asked(&words);
     let numbers: Option<Vec<u64>> = args.iter().skip(1).map(|a| a.parse().ok()).collect();
     let number = |i: usize, default| match &numbers {
         Some(numbers) => numbers.get(i).copied().unwrap_or(default),
@@ -32,8 +25,8 @@ fn main() -> ExitCode {
         first: number(2, 1),
     };
     let all = plan.seeds > 0 && plan.lines > 0 && plan.first > 0 && args.len() < 5;
-    let (Some(program), true) = (args.first(), all) else {
-        eprintln!("usage: compare [--accounts] PROGRAM [SEEDS] [LINES] [FIRST]");
+    let (Some(&program), true) = (args.first(), all) else {
+        eprintln!("usage: compare [--accounts | --objects] PROGRAM [SEEDS] [LINES] [FIRST]");
         return ExitCode::from(2);
     };
     let mut run = |input: &[u8], feed| {

@@ -1,12 +1,12 @@
-//! `faults [--accounts] PROGRAM`: the call program, or the program `accounts`,
-//! with one read or write that goes wrong, by the library `examples/fault.rs`.
-//! Status 1 where its output is not as it should be.
+//! `faults [--accounts | --objects] PROGRAM`: the call program, or the program
+//! `accounts` or `objects`, with one read or write that goes wrong, by the library
+//! `examples/fault.rs`. Status 1 where its output is not as it should be.
 //!
 //! Behind a write that fails nothing more is written. A call that is
 //! interrupted, would have to wait or moves only a part does not show. A read
 //! that fails otherwise is the end of the input.
 
-use refmonitor::compare::{Reference, ANSWERS, FIGURES};
+use refmonitor::compare::Reference;
 use refmonitor::inputs;
 use refmonitor::lines::HEADER;
 use std::env;
@@ -97,7 +97,7 @@ impl Bench {
         self.same("", &self.whole)?;
         let writes = self.failed_writes()?;
         // The answers take the header, each piece once or more often, and the
-        // last line; the figures at least one write.
+        // last line; what is printed at the end alone at least one write.
         let pieces = self.input.len().div_ceil(PIECE);
         let fewest = if self.reference.beginnings == 0 {
             pieces + 4
@@ -153,13 +153,9 @@ fn bench(reference: Reference, program: &str, file: &Path) -> io::Result<Bench> 
 fn main() -> ExitCode {
     let args: Vec<String> = env::args().skip(1).collect();
     let words: Vec<&str> = args.iter().map(String::as_str).collect();
-    let (reference, program) = match words[..] {
-        ["--accounts", program] => (FIGURES, program),
-        [program] => (ANSWERS, program),
-        _ => {
-            eprintln!("usage: faults [--accounts] PROGRAM");
-            return ExitCode::from(2);
-        }
+    let (reference, &[program]) = Reference::asked(&words) else {
+        eprintln!("usage: faults [--accounts | --objects] PROGRAM");
+        return ExitCode::from(2);
     };
     let file = env::temp_dir().join(format!("faults-{}", std::process::id()));
     let told = bench(reference, program, &file)

@@ -1,6 +1,6 @@
 //! Inputs of the program `accounts` with its whole output.
 
-use super::{Case, Start};
+use super::{at_end, with_unfinished, Case, Start};
 use crate::figures::text;
 
 /// A name, what stands before the lines, the lines, and the pages of the
@@ -160,22 +160,11 @@ const UNFINISHED: &[Figured] = &[
 ];
 
 fn whole((name, start, lines, figures): &Figured) -> Case {
-    let mut case = start.case(name);
-    for line in *lines {
-        case.input.extend_from_slice(line.as_bytes());
-        case.input.push(b'\n');
-    }
-    case.output = text(*figures).into_bytes();
-    case
+    at_end(name, start, lines, text(*figures))
 }
 
 /// All of them.
 pub fn figures() -> Vec<Case> {
-    let mut cases: Vec<Case> = FIGURED.iter().map(whole).collect();
-    for unfinished in UNFINISHED {
-        let mut case = whole(unfinished);
-        case.input.pop();
-        cases.push(case);
-    }
-    cases
+    let all = |cases: &[Figured]| cases.iter().map(whole).collect();
+    with_unfinished(all(FIGURED), all(UNFINISHED))
 }

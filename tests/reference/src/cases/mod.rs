@@ -1,6 +1,7 @@
 //! Inputs whose whole output is written out: the paper's listing, its edges
 //! and its traps, the readings, the ends of Clists, the whole lock, accounts,
-//! and lines that cannot be read; and inputs of the program `accounts`.
+//! and lines that cannot be read; and inputs of the programs `accounts` and
+//! `objects`.
 
 mod accounts;
 mod boots;
@@ -12,10 +13,12 @@ mod objects;
 mod passwords;
 mod ranges;
 mod slots;
+mod tables;
 mod unreadable;
 mod whole_lock;
 
 pub use figures::figures;
+pub use tables::tables;
 pub use unreadable::unreadable;
 
 use crate::lines::{BOOT, HEADER};
@@ -133,6 +136,27 @@ fn whole((name, start, calls): &Written) -> Case {
         case.line(line.as_bytes(), answer);
     }
     case
+}
+
+/// A case of a program that prints at the end alone: its own lines, and the whole
+/// output.
+fn at_end(name: &str, start: &Start, lines: &[&str], output: String) -> Case {
+    let mut case = start.case(name);
+    for line in lines {
+        case.input.extend_from_slice(line.as_bytes());
+        case.input.push(b'\n');
+    }
+    case.output = output.into();
+    case
+}
+
+/// The cases, then others whose last line loses its line feed, and is passed over.
+fn with_unfinished(mut cases: Vec<Case>, mut unfinished: Vec<Case>) -> Vec<Case> {
+    for case in &mut unfinished {
+        case.input.pop();
+    }
+    cases.append(&mut unfinished);
+    cases
 }
 
 /// The listing, the cases around the edges, the traps, the readings, the whole

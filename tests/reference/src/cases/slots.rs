@@ -41,6 +41,22 @@ pub(super) const SLOTS: &[Written] = &[
         ],
     ),
     (
+        "a slot by a registration's password is not live",
+        Start::Listing,
+        &[
+            ("0,WR,64,256", "0,0"),
+            ("0,WR,65,21", "0,0"),
+            ("0,AP,1,22,1", "0,0"),
+            ("1,IN,1,1,22", "0,0"),
+            ("1,LK,64,1", "0,64"),
+            ("0,DP,1,22", "0,0"),
+            ("1,LK,64,1", "7,0"),
+            ("0,RG,1,22,0,11,64", "0,0"),
+            ("1,LK,64,1", "7,0"),
+            ("1,GT", "0,2,0,0,32,1"),
+        ],
+    ),
+    (
         "a return lifts locks",
         Start::Service,
         &[

@@ -2,7 +2,7 @@
 
 use super::difference::in_form;
 use crate::cases::{self, Case};
-use crate::{figures, lines};
+use crate::{figures, lines, objects};
 
 /// What a program should do.
 #[derive(Clone, Copy)]
@@ -39,19 +39,51 @@ pub const FIGURES: Reference = Reference {
     output: figures::run_bytes,
     in_form: |_, output| figures::in_form(output),
     written: || {
-        let mut cases = cases::all();
-        for case in &mut cases {
-            case.output = figures::run_bytes(&case.input);
-        }
         vec![
             ("cases, figures written out", cases::figures()),
-            ("the inputs of all other cases", cases),
+            other_cases(figures::run_bytes),
         ]
     },
     beginnings: 12,
 };
 
+/// The program `objects`, which prints at the end alone too.
+pub const OBJECTS: Reference = Reference {
+    output: objects::run_bytes,
+    in_form: |_, output| objects::in_form(output),
+    written: || {
+        vec![
+            ("cases, objects written out", cases::tables()),
+            other_cases(objects::run_bytes),
+        ]
+    },
+    beginnings: 12,
+};
+
+/// The inputs of the call program's cases, with another program's outputs.
+fn other_cases(output: fn(&[u8]) -> Vec<u8>) -> (&'static str, Vec<Case>) {
+    let mut cases = cases::all();
+    for case in &mut cases {
+        case.output = output(&case.input);
+    }
+    ("the inputs of all other cases", cases)
+}
+
+/// The words by which programs other than the call program are named.
+pub const OPTIONS: [(&str, Reference); 2] = [("--accounts", FIGURES), ("--objects", OBJECTS)];
+
 impl Reference {
+    /// What the first word asks for and the words behind it, if it is an option;
+    /// else the call program and all words.
+    pub fn asked<'a>(words: &'a [&'a str]) -> (Reference, &'a [&'a str]) {
+        let options = OPTIONS.into_iter();
+        let mut asked = options.filter(|(word, _)| words.first() == Some(word));
+        match asked.next() {
+            Some((_, reference)) => (reference, &words[1..]),
+            None => (ANSWERS, words),
+        }
+    }
+
     /// The input, then beginnings of it: by turns a line is cut, or not.
     pub(super) fn inputs(&self, input: Vec<u8>) -> Vec<Vec<u8>> {
         let count = self.beginnings;

@@ -2,6 +2,7 @@
 
 use super::bounds::bounds;
 use super::charges::Charges;
+use super::gaps::Gaps;
 use super::restored::Restored;
 use super::seen::Seen;
 use super::situations::situations;
@@ -27,6 +28,7 @@ struct Past {
     after: Monitor,
     restored: Restored,
     charges: Charges,
+    gaps: Gaps,
     booted: bool,
 }
 
@@ -87,6 +89,7 @@ impl Coverage {
             after: &past.after,
             restored: &past.restored,
             charges: &past.charges,
+            gaps: &past.gaps,
             booted: past.booted,
             domain,
             call,
@@ -95,6 +98,7 @@ impl Coverage {
         past.charges.note(&past.before, domain, call, answer == 0);
         if answer == 0 {
             past.restored.note(&past.before, &past.after, call);
+            past.gaps.note(&past.before, domain, call);
             past.booted |= letters == "BT";
         }
         drop(past.before.call(domain, call));

@@ -4,6 +4,7 @@
 mod bounds;
 mod charges;
 mod count;
+mod gaps;
 mod restored;
 mod seen;
 mod situations;
@@ -12,7 +13,8 @@ mod table;
 pub use bounds::BOUNDS;
 pub use charges::{Charges, Deletion};
 pub use count::Coverage;
+pub use gaps::Gaps;
 pub use restored::Restored;
 pub use seen::Seen;
-pub use situations::{situations, Situation};
+pub use situations::{situations, Situation, ORDER};
 pub use table::{letters_of, pairs, NO_LETTERS, TABLE};

@@ -1,6 +1,7 @@
 //! A call as the situations look at it.
 
 use super::charges::Charges;
+use super::gaps::Gaps;
 use super::restored::Restored;
 use crate::monitor::*;
 
@@ -9,12 +10,14 @@ fn decides(mode: u64, rights: u64) -> bool {
 }
 
 /// A call with the state before and after it, the pairs that WRs brought back
-/// from behind an end before it, and what was done to the accounts.
+/// from behind an end before it, what was done to the accounts, and what was
+/// taken away.
 pub struct Seen<'a> {
     pub before: &'a Monitor,
     pub after: &'a Monitor,
     pub restored: &'a Restored,
     pub charges: &'a Charges,
+    pub gaps: &'a Gaps,
     pub booted: bool,
     pub domain: u64,
     pub call: &'a Call,

@@ -12,6 +12,7 @@ mod judging;
 mod kinds;
 mod line;
 mod objects;
+mod order;
 mod pairs;
 mod passwords;
 mod plans;

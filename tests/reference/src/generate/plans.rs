@@ -5,7 +5,7 @@ use super::*;
 type Plan = fn(&mut Generator, usize);
 
 /// What a domain may set out to do, and how often.
-pub(super) const PLANS: [(Plan, u64); 37] = [
+pub(super) const PLANS: [(Plan, u64); 39] = [
     (Generator::access, 30),
     (Generator::look, 10),
     (Generator::share, 8),
@@ -43,6 +43,8 @@ pub(super) const PLANS: [(Plan, u64); 37] = [
     (Generator::break_rules, 1),
     (Generator::crowd_estate, 1),
     (Generator::give_back, 2),
+    (Generator::turn_over, 1),
+    (Generator::renew, 1),
 ];
 
 /// Plans before the first BT. No account can be charged there, so nothing

@@ -4,11 +4,8 @@
 mod bytes;
 mod domains;
 mod objects;
-mod placed;
 
-pub use placed::{Placed, PlacedObject};
-
-use crate::monitor::{DOMAINS, MAX_LIMIT, MAX_SET};
+use crate::monitor::{estate, Monitor, Object, DOMAINS, MAX_LIMIT, MAX_SET};
 use bytes::put;
 use domains::{read_domain, write_domain};
 use objects::{read_estate, write_estate};
@@ -25,15 +22,17 @@ pub const DOMAIN_BYTES: usize = 376;
 pub const FRAME_BYTES: usize = 75;
 pub const STORE_BYTES: usize = 65_536;
 
-/// The state of an image; `None` where it does not read.
-pub fn decode(image: &[u8]) -> Option<Placed> {
+/// The state of an image, with objects by rising base and a store of zeros;
+/// `None` where it does not read.
+pub fn decode(image: &[u8]) -> Option<Monitor> {
     if image.len() != IMAGE_BYTES {
         return None;
     }
     let (table, domains) = image[..LIMITS_AT].split_at(DOMAINS_AT);
-    let mut state = Placed::default();
+    let mut state = Monitor::new();
     for d in 0..DOMAINS {
-        state.estates[d] = read_estate(d, &table[ESTATE_BYTES * d..][..ESTATE_BYTES])?;
+        let estate = &table[ESTATE_BYTES * d..][..ESTATE_BYTES];
+        state.objects.extend(read_estate(d, estate)?);
         state.domains[d] = read_domain(&domains[DOMAIN_BYTES * d..][..DOMAIN_BYTES])?;
     }
     state.limits = [0, 1, 2, 3].map(|a| u64::from(image[LIMITS_AT + a]));
@@ -43,13 +42,15 @@ pub fn decode(image: &[u8]) -> Option<Placed> {
     within.then_some(state)
 }
 
-/// The image of a state.
-pub fn encode(state: &Placed) -> Vec<u8> {
+/// The image of a monitor's state.
+pub fn encode(state: &Monitor) -> Vec<u8> {
     let mut image = vec![0; IMAGE_BYTES];
     let (table, domains) = image[..LIMITS_AT].split_at_mut(DOMAINS_AT);
+    let objects = state.by_base();
     for d in 0..DOMAINS {
-        let estate = &mut table[ESTATE_BYTES * d..][..ESTATE_BYTES];
-        write_estate(&state.estates[d], estate);
+        let own = |o: &&&Object| estate(d).contains(&o.base);
+        let objects: Vec<&Object> = objects.iter().filter(own).copied().collect();
+        write_estate(&objects, &mut table[ESTATE_BYTES * d..][..ESTATE_BYTES]);
         let domain = &mut domains[DOMAIN_BYTES * d..][..DOMAIN_BYTES];
         write_domain(&state.domains[d], domain);
     }

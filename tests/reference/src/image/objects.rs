@@ -1,11 +1,11 @@
 //! Estates: objects with their passwords and registrations.
 
 use super::bytes::{number, put, unused};
-use super::placed::{Estate, PlacedObject};
 use super::OBJECT_BYTES;
 use crate::monitor::*;
 
 /// Where the fields of an object begin.
+const COUNT_OF_PAGES: usize = 1;
 const PASSWORDS: usize = 2;
 const PASSWORD_BYTES: usize = 9;
 const REGISTRATION: usize = 38;
@@ -15,27 +15,26 @@ const COUNT: usize = 55;
 const ENTRIES: usize = 56;
 const ACCOUNT: usize = 64;
 
-/// The estate of a domain, if its bytes keep the bounds.
-pub fn read_estate(domain: usize, bytes: &[u8]) -> Option<Estate> {
-    let mut objects = Estate::default();
-    for (place, bytes) in objects.iter_mut().zip(bytes.chunks(OBJECT_BYTES)) {
-        *place = read_object(domain, bytes)?;
-    }
-    for page in estate(domain) {
-        let covers = |o: &&PlacedObject| (o.base..o.base + o.pages).contains(&page);
-        if objects.iter().flatten().filter(covers).count() > 1 {
+/// The objects of a domain's estate, if its bytes keep the bounds: they stand in
+/// the first places, each behind the pages of the one before it.
+pub fn read_estate(domain: usize, bytes: &[u8]) -> Option<Vec<Object>> {
+    let stands = |place: &&[u8]| place[COUNT_OF_PAGES] != 0;
+    let count = bytes.chunks(OBJECT_BYTES).take_while(stands).count();
+    let (standing, free) = bytes.split_at(OBJECT_BYTES * count);
+    let mut objects: Vec<Object> = Vec::new();
+    for bytes in standing.chunks(OBJECT_BYTES) {
+        let object = read_object(domain, bytes)?;
+        if objects.last().is_some_and(|o| object.base < o.run().end) {
             return None;
         }
+        objects.push(object);
     }
-    Some(objects)
+    unused(free).then_some(objects)
 }
 
-/// A place of an estate: `Some(None)` where it is free.
-fn read_object(domain: usize, bytes: &[u8]) -> Option<Option<PlacedObject>> {
-    let (base, pages) = (u64::from(bytes[0]), u64::from(bytes[1]));
-    if pages == 0 {
-        return unused(bytes).then_some(None);
-    }
+/// A standing object.
+fn read_object(domain: usize, bytes: &[u8]) -> Option<Object> {
+    let (base, pages) = (u64::from(bytes[0]), u64::from(bytes[COUNT_OF_PAGES]));
     let own = estate(domain);
     if base < own.start || base + pages > own.end {
         return None;
@@ -44,26 +43,29 @@ fn read_object(domain: usize, bytes: &[u8]) -> Option<Option<PlacedObject>> {
     if account >= ACCOUNTS as u64 {
         return None;
     }
-    let mut object = PlacedObject {
+    let object = Object {
         base,
         pages,
-        passwords: [None; MAX_PASSWORDS],
-        registration: None,
+        passwords: read_passwords(&bytes[PASSWORDS..REGISTRATION])?,
+        registration: read_registration(base..base + pages, bytes)?,
         account,
     };
-    for (k, place) in object.passwords.iter_mut().enumerate() {
-        *place = read_password(&bytes[PASSWORDS + PASSWORD_BYTES * k..][..PASSWORD_BYTES])?;
-    }
-    object.registration = read_registration(base..base + pages, bytes)?;
-    object.words_differ().then_some(Some(object))
+    let mut words = object.all_passwords();
+    words.sort_unstable();
+    let differ = words.windows(2).all(|two| two[0] != two[1]);
+    differ.then_some(object)
 }
 
-fn read_password(bytes: &[u8]) -> Option<Option<Password>> {
-    let (word, mode) = (number(&bytes[..8]), u64::from(bytes[8]));
-    if word == 0 {
-        return (mode == 0).then_some(None);
-    }
-    legal_mode(mode).then_some(Some(Password { word, mode }))
+/// The ordinary passwords, which stand in the first places.
+fn read_passwords(bytes: &[u8]) -> Option<Vec<Password>> {
+    let read = |bytes: &[u8]| Password {
+        word: number(&bytes[..8]),
+        mode: u64::from(bytes[8]),
+    };
+    let places = bytes.chunks(PASSWORD_BYTES).map(read);
+    let passwords: Vec<Password> = places.take_while(|p| p.word != 0).collect();
+    let legal = passwords.iter().all(|p| legal_mode(p.mode));
+    (legal && unused(&bytes[PASSWORD_BYTES * passwords.len()..])).then_some(passwords)
 }
 
 /// The registration of an object with these pages.
@@ -90,24 +92,24 @@ fn read_registration(pages: std::ops::Range<u64>, object: &[u8]) -> Option<Optio
     }))
 }
 
-pub fn write_estate(objects: &Estate, bytes: &mut [u8]) {
-    for (place, bytes) in objects.iter().zip(bytes.chunks_mut(OBJECT_BYTES)) {
-        if let Some(object) = place {
-            write_object(object, bytes);
-        }
+/// Writes objects by rising base into the first places.
+pub fn write_estate(objects: &[&Object], bytes: &mut [u8]) {
+    assert!(objects.len() <= MAX_OBJECTS, "{objects:?} are too many");
+    for (object, bytes) in objects.iter().zip(bytes.chunks_mut(OBJECT_BYTES)) {
+        write_object(object, bytes);
     }
 }
 
-fn write_object(object: &PlacedObject, bytes: &mut [u8]) {
-    put(&mut bytes[0..1], object.base);
-    put(&mut bytes[1..2], object.pages);
+fn write_object(object: &Object, bytes: &mut [u8]) {
+    let passwords = &object.passwords;
+    assert!(passwords.len() <= MAX_PASSWORDS, "{object:?} has too many");
+    put(&mut bytes[..COUNT_OF_PAGES], object.base);
+    put(&mut bytes[COUNT_OF_PAGES..PASSWORDS], object.pages);
     put(&mut bytes[ACCOUNT..], object.account);
-    for (k, place) in object.passwords.iter().enumerate() {
-        if let Some(password) = place {
-            let bytes = &mut bytes[PASSWORDS + PASSWORD_BYTES * k..][..PASSWORD_BYTES];
-            put(&mut bytes[..8], password.word);
-            put(&mut bytes[8..], password.mode);
-        }
+    let places = bytes[PASSWORDS..REGISTRATION].chunks_mut(PASSWORD_BYTES);
+    for (password, bytes) in passwords.iter().zip(places) {
+        put(&mut bytes[..8], password.word);
+        put(&mut bytes[8..], password.mode);
     }
     if let Some(registration) = &object.registration {
         put(&mut bytes[REGISTRATION..LIST_PAGE], registration.password);

@@ -70,6 +70,13 @@ impl Monitor {
         self.objects.iter().position(|o| o.base == base)
     }
 
+    /// The objects, bases rising.
+    pub fn by_base(&self) -> Vec<&Object> {
+        let mut objects: Vec<&Object> = self.objects.iter().collect();
+        objects.sort_by_key(|o| o.base);
+        objects
+    }
+
     /// How many objects stand in a domain's estate.
     pub fn objects_in(&self, domain: usize) -> usize {
         let own = estate(domain);

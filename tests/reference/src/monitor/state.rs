@@ -53,6 +53,7 @@ pub struct Registration {
 pub struct Object {
     pub base: u64,
     pub pages: u64,
+    /// The ordinary passwords, oldest first.
     pub passwords: Vec<Password>,
     pub registration: Option<Registration>,
     /// The account that its pages are charged to.

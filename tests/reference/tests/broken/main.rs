@@ -1,10 +1,12 @@
 //! The comparison: silent on the reference itself, and loud on broken copies.
 
+mod at_end;
 mod figures;
 mod monitors;
 mod outputs;
 mod processes;
 mod readers;
+mod tables;
 
 use refmonitor::compare::{
     differ, line_count, report, search, shortest, Difference, Feed, Other, Plan, Ran, Reference,

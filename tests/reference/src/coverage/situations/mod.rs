@@ -9,11 +9,14 @@ mod judging;
 mod lists;
 mod modes;
 mod objects;
+mod order;
 mod passwords;
 mod procedures;
 mod registrations;
 mod slots;
 mod whole_lock;
+
+pub use order::ORDER;
 
 use super::charges::Deletion;
 use super::seen::Seen;
@@ -22,7 +25,7 @@ use crate::monitor::*;
 /// A situation's name, and whether a call is in it.
 pub type Situation = (&'static str, fn(&Seen) -> bool);
 
-const GROUPS: [&[Situation]; 15] = [
+const GROUPS: [&[Situation]; 16] = [
     boots::BOOTS,
     boot_accounts::BOOT_ACCOUNTS,
     accounts::ACCOUNTS_CHARGED,
@@ -32,6 +35,7 @@ const GROUPS: [&[Situation]; 15] = [
     ends::ENDS,
     objects::OBJECTS,
     passwords::PASSWORDS,
+    order::ORDER,
     modes::MODES,
     registrations::REGISTRATIONS,
     slots::SLOTS,
