@@ -5,4 +5,4 @@ use Rattle.updates.proofs.objects.add_password.Tie as tie
 
 pub add-password-spec : {M : Type 1} → statement M
 unfolding addPassword
-add-password-spec = tie.close (tie.spec (λ c κs. search needs) (λ c κs. search needs) (λ c. cc))
+add-password-spec = tie.close (tie.spec (λ c κs. search needs) (λ c κs. search needs) (λ c. rw (c .with-password .ensures, c .before .free-password-place .ensures)))
