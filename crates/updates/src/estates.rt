@@ -8,10 +8,9 @@ use state::State;
 use state::Table;
 use state::objects::free_object;
 ghost use mathlib.Core.Path.{_≡_};
-ghost use Prim.Native.Nat.{_<_};
 ghost use Rattle.state.specs.Places.{emptyState};
 ghost use Rattle.state.specs.Lookup.{placeAbove};
-ghost use Rattle.state.specs.Update.{withObject, objectIn, insertObject, objectOut, removeObject, withEstate, withDomain};
+ghost use Rattle.state.specs.Update.{withObject, insertObject, removeObject, withEstate, withDomain};
 
 // The place for a new object with the base: that of the first object with a higher base, or else the first free one.
 fn place_above(e: Estate, base: u8) -> usize
@@ -28,69 +27,41 @@ fn place_above(e: Estate, base: u8) -> usize
     8
 }
 
-// What stands at k once o is put in at `at`.
-fn object_in(e: Estate, at: usize, o: Object, k: usize) -> Object
-    requires { ⌜ k < 8 ⌝ }
-    ensures { λ r. ⌜ r ≡ objectIn e at o k ⌝ }
-{
-    if k < at {
-        return e.objects[k];
-    }
-    if k == at {
-        return o;
-    }
-    e.objects[k - 1]
-}
-
 // An object more, before the first with a higher base; what stands at the last place gives way.
 pub fn insert_object(e: Estate, o: Object) -> Estate
     ensures { λ r. ⌜ r ≡ insertObject e o ⌝ }
 {
     let at = place_above(e, o.base);
-    Estate {
-        objects: [
-            object_in(e, at, o, 0),
-            object_in(e, at, o, 1),
-            object_in(e, at, o, 2),
-            object_in(e, at, o, 3),
-            object_in(e, at, o, 4),
-            object_in(e, at, o, 5),
-            object_in(e, at, o, 6),
-            object_in(e, at, o, 7),
-        ],
+    if 8 <= at {
+        return e;
     }
-}
-
-// What stands at k once the object at `at` is gone.
-fn object_out(e: Estate, at: usize, k: usize) -> Object
-    requires { ⌜ k < 8 ⌝ }
-    ensures { λ r. ⌜ r ≡ objectOut e at k ⌝ }
-{
-    if k < at {
-        return e.objects[k];
+    let mut r = e;
+    let mut k = 7;
+    while at < k {
+        let x = r.objects[k - 1];
+        r.objects[k] = x;
+        k -= 1;
     }
-    if k < 7 {
-        return e.objects[k + 1];
-    }
-    free_object()
+    r.objects[at] = o;
+    r
 }
 
 // An object less; those behind it close the gap. Past the last place nothing changes.
 pub fn remove_object(e: Estate, at: usize) -> Estate
     ensures { λ r. ⌜ r ≡ removeObject e at ⌝ }
 {
-    Estate {
-        objects: [
-            object_out(e, at, 0),
-            object_out(e, at, 1),
-            object_out(e, at, 2),
-            object_out(e, at, 3),
-            object_out(e, at, 4),
-            object_out(e, at, 5),
-            object_out(e, at, 6),
-            object_out(e, at, 7),
-        ],
+    if 8 <= at {
+        return e;
     }
+    let mut r = e;
+    let mut k = at;
+    while k < 7 {
+        let o = r.objects[k + 1];
+        r.objects[k] = o;
+        k += 1;
+    }
+    r.objects[7] = free_object();
+    r
 }
 
 // Another object at a place. Past the last place nothing changes.
