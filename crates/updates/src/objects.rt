@@ -6,7 +6,6 @@ use state::objects::free_password_place;
 use state::objects::free_registration;
 use state::objects::place_of;
 ghost use mathlib.Core.Path.{_≡_};
-ghost use Prim.Native.Nat.{_<_};
 ghost use lib.ListN.{set};
 ghost use Rattle.bounded.specs.Fill.{tabulate};
 ghost use Rattle.state.specs.Update.{newObject, withPasswords, addPassword, passwordOut, dropPassword, withRegistration};
@@ -59,31 +58,21 @@ pub fn add_password(o: Object, word: u64, mode: u8) -> Object
     )
 }
 
-// What stands at k once the password at `at` is gone.
-fn password_out(o: Object, at: usize, k: usize) -> Password
-    requires { ⌜ k < 4 ⌝ }
-    ensures { λ r. ⌜ r ≡ passwordOut o at k ⌝ }
-{
-    if k < at {
-        return o.passwords[k];
-    }
-    if k < 3 {
-        return o.passwords[k + 1];
-    }
-    Password { word: 0, mode: 0 }
-}
-
 // A password less; the younger ones close the gap. Past the last place nothing changes.
 fn without_password(o: Object, at: usize) -> Object
     ensures { λ r. ⌜ r ≡ withPasswords o (tabulate 4 (passwordOut o at)) ⌝ }
 {
+    if 4 <= at {
+        return o;
+    }
     let mut r = o;
-    r.passwords = [
-        password_out(o, at, 0),
-        password_out(o, at, 1),
-        password_out(o, at, 2),
-        password_out(o, at, 3),
-    ];
+    let mut k = at;
+    while k < 3 {
+        let p = r.passwords[k + 1];
+        r.passwords[k] = p;
+        k += 1;
+    }
+    r.passwords[3] = Password { word: 0, mode: 0 };
     r
 }
 

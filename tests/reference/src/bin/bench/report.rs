@@ -27,6 +27,7 @@ const PARTS: [(&str, &[&str]); 7] = [
             "boot::",
             "plan::",
             "pages::",
+            "updates::",
         ],
     ),
     ("copying", &["memmove", "memcpy", "__memmove", "__memcpy"]),
