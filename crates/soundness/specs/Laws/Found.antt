@@ -121,7 +121,8 @@ pub state-covering : (s : State) (page : ℕ) → sound s ≡ true → objectCov
 unfolding objectCovering covers
 state-covering s page h = go (flag (ltb (page / 32) 4))
   where
-    go : (ltb (page / 32) 4 ≡ true) ⊎ (ltb (page / 32) 4 ≡ false) → covering (estateOf (s .table) page) page ≡ objectWhere (λ o. covers o page) (estateOf (s .table) page)
+    go : (ltb (page / 32) 4 ≡ true) ⊎ (ltb (page / 32) 4 ≡ false)
+        → covering (estateOf (s .table) page) page ≡ objectWhere (λ o. covers o page) (estateOf (s .table) page)
     go (inl l) = estate-covering (estateOf (s .table) page) (page / 32) page (state-parts s h .estate (page / 32) (ltb-true (page / 32) 4 l))
     go (inr l) =
         rw (no-estate s page h (ltb-false (page / 32) 4 l))

@@ -21,8 +21,10 @@ covering-spec =
     rw (← stop (l .before .loop .inv) (l .loop-test .taken) (lt-ltb _ _ (c .before .if1 .taken)), le-leb _ _ (c .if2 .taken)))
     (λ c κs. search needs)
     (λ c. let l = c .before .before .before .before .before .before in
-    rw (← stop (l .before .loop .inv) (l .loop-test .taken) (lt-ltb _ _ (c .before .before .if1 .taken)), lt-leb _ _ (c .before .if2 .left)) (c .free-object .ensures))
+    rw (← stop (l .before .loop .inv) (l .loop-test .taken) (lt-ltb _ _ (c .before .before .if1 .taken)), lt-leb _ _ (c .before .if2 .left))
+    (c .free-object .ensures))
     (λ c. search needs) (λ c. search needs)
     (λ c. let l = c .before .before .before .before in next (l .before .loop .inv) (l .loop-test .taken) (le-ltb _ _ (c .if1 .left)))
     (λ c κs. search needs)
-    (λ c. rw (← over (c .before .before .loop .inv) (c .before .loop-test .left)) (c .free-object2 .ensures ∙ sym (cond-same (leb 0 (c .before .before .before .args .page)) freeObject))))
+    (λ c. rw (← over (c .before .before .loop .inv) (c .before .loop-test .left))
+    (c .free-object2 .ensures ∙ sym (cond-same (leb 0 (c .before .before .before .args .page)) freeObject))))
