@@ -4,12 +4,13 @@ use mathlib.Core.Path.{_≡_, refl, ap, subst}
 use mathlib.Core.Bool.{Bool, true}
 use mathlib.Core.List.{List, [], _∷_}
 use mathlib.Core.Logic.{_⊎_, inl, inr, ⊎-elim}
+use lib.Dec.{leb}
 use lib.ListN.{getD, set, replicate}
+use Rattle.bounded.specs.Bools.{cond-ind}
 use Rattle.bounded.specs.Fill.{tabulate}
 use Rattle.bounded.specs.Shift.{in-cases, out-cases}
 use Rattle.state.specs.Places.{noObject, noEstate, noDomain, freeObject, objectAt, estateAt, domainAt}
-use Rattle.state.specs.Extent.{covers}
-use Rattle.state.specs.Lookup.{hasBase, objectWhere, placeWhere, placeAbove, based, objectBased, covering, objectCovering}
+use Rattle.state.specs.Lookup.{hasBase, endsBehind, objectWhere, placeWhere, placeAbove, based, objectBased, covering, objectCovering}
 use Rattle.state.specs.Update.{withObject, objectIn, insertObject, objectOut, removeObject}
 use Rattle.state.specs.Laws.Lookup.{found-or-free}
 use Rattle.soundness.specs.Sound.{sound}
@@ -83,7 +84,9 @@ module _ (P : Object → Type 0) (free : P freeObject) (none : P noObject) where
 
   pub covering-each : (t : Table) (p : ℕ) → Each P (estateAt t (p / 32)) → P (objectCovering t p)
   unfolding objectCovering covering
-  covering-each t p h = where-each (λ o. covers o p) (estateAt t (p / 32)) h
+  covering-each t p h =
+      let o = objectWhere (endsBehind p) (estateAt t (p / 32)) in
+      cond-ind P (leb (o .base) p) o freeObject (λ b. where-each (endsBehind p) (estateAt t (p / 32)) h) (λ b. free)
 
   -- A SEARCH BY A BASE finds the estate and the object of the table, or nothing
   module _ (w : World) (f : Frame) (b r : ℕ) (h : Each P (estateAt (w .state .table) (b / 32))) where

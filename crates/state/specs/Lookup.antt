@@ -1,10 +1,10 @@
 -- What is looked up in the object table.
-use Prim.Native.Nat.{ℕ}
+use Prim.Native.Nat.{ℕ, _+_}
 use mathlib.Core.Bool.{Bool, not, cond, _&&_, _||_}
-use lib.Dec.{ltb, eqb}
+use lib.Dec.{leb, ltb, eqb}
 use Rattle.bounded.specs.Search.{first}
 use Rattle.state.specs.Places.{freeObject, objectAt, passwordAt, estateOf}
-use Rattle.state.specs.Extent.{free, covers}
+use Rattle.state.specs.Extent.{free}
 use Rattle.state.specs.declared.Object.{Object}
 use Rattle.state.specs.declared.Estate.{Estate}
 use Rattle.state.specs.declared.Table.{Table}
@@ -20,9 +20,13 @@ objectWhere test e = first (λ k. test (objectAt e k)) (objectAt e) freeObject 0
 abbrev pub placeWhere : (Object → Bool) → Estate → ℕ
 placeWhere test e = first (λ k. test (objectAt e k)) (λ k. k) 8 0 8
 
--- the object whose run has the page
+-- the run of the object ends behind the page
+abbrev pub endsBehind : ℕ → Object → Bool
+endsBehind page o = ltb page (o .base + o .pages)
+
+-- the object whose run has the page: the first that ends behind the page, where that one has it; in a sound estate no other could (T-06)
 unfoldable pub covering : Estate → ℕ → Object
-covering e page = objectWhere (λ o. covers o page) e
+covering e page = cond (leb (objectWhere (endsBehind page) e .base) page) (objectWhere (endsBehind page) e) freeObject
 
 -- the object with the base, and its place
 unfoldable pub based : Estate → ℕ → Object

@@ -1,21 +1,25 @@
 // The objects of an estate, looked up.
 use crate::Estate;
 use crate::Object;
-use crate::extents::covers;
 use crate::objects::free_object;
 use crate::objects::has_base;
 ghost use mathlib.Core.Path.{_≡_};
 ghost use Rattle.state.specs.Lookup.{covering, based, placeBased, hasRoom};
 
-// The object whose run has the page, a free one where there is none.
+// The object whose run has the page, a free one where there is none: the search stops at the first that ends behind the page.
 pub fn covering(e: Estate, page: u64) -> Object
     ensures { λ r. ⌜ r ≡ covering e page ⌝ }
 {
     let mut k = 0;
     while k < 8 {
         let o = e.objects[k];
-        if covers(o, page) {
-            return o;
+        let base = o.base as u64;
+        let pages = o.pages as u64;
+        if page < base + pages {
+            if base <= page {
+                return o;
+            }
+            return free_object();
         }
         k += 1;
     }

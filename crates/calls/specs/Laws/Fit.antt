@@ -12,7 +12,7 @@ use Rattle.bounded.specs.Every.{below-at}
 use Rattle.bounded.specs.Fill.{tabulate-at}
 use Rattle.state.specs.Places.{objectAt, estateAt, domainAt}
 use Rattle.state.specs.Extent.{covers, apart, liesIn}
-use Rattle.state.specs.Lookup.{hasBase, covering, based, placeBased, objectBased, objectCovering, hasRoom, hasPassword}
+use Rattle.state.specs.Lookup.{hasBase, based, placeBased, objectBased, objectCovering, hasRoom, hasPassword}
 use Rattle.state.specs.Update.{newObject, withObject, insertObject, withRegistration, mergeList, onlyList}
 use Rattle.state.specs.Laws.Extent.{not-zero, SameRun, add-run, register-run, drop-run}
 use Rattle.soundness.specs.Sound.{objectOk, estateOk, frameOk, domainOk, sound}
@@ -23,7 +23,7 @@ use Rattle.soundness.specs.Laws.Estates.{insert-sound, remove-sound, found-run-
 use Rattle.soundness.specs.Laws.ObjectParts.{ObjectBounds, RegistrationSound, registration-parts}
 use Rattle.soundness.specs.Laws.DomainParts.{domain-parts}
 use Rattle.soundness.specs.Laws.StateParts.{state-parts}
-use Rattle.soundness.specs.Laws.Found.{stands-sound, FoundSound, based-sound, covering-sound}
+use Rattle.soundness.specs.Laws.Found.{stands-sound, FoundSound, based-sound, covering-answered}
 use Rattle.state.specs.declared.Capability.{Capability}
 use Rattle.state.specs.declared.Object.{Object}
 use Rattle.state.specs.declared.Estate.{Estate}
@@ -140,11 +140,10 @@ registered-fit o d b k l es range inside new stands h =
 -- the list of a registration that P is granted on names a page
 entered-list : (w : World) (f : Frame) (a : ℕ) → sound (w .state) ≡ true → isSome (search judged w f (rights (Address a) 16)) ≡ true
     → objectOf (search judged w f (rights (Address a) 16)) .registration .list .page < 128
-unfolding objectCovering covering
 entered-list w f a h s =
     let g = was-granted w f (Address a) 16 s in
     let o = objectCovering (w .state .table) (a / 64) in
-    let b : ObjectBounds o (a / 64 / 32) = covering-sound (w .state) (a / 64) h (g .pages) .bounds in
+    let b : ObjectBounds o (a / 64 / 32) = covering-answered (w .state) (a / 64) h .bounds (g .pages) in
     rw (g .judgement) (registration-parts o (b .registration) (called-registered w f a (g .pair) h (g .judgement)) .list)
 
 -- the frame that a PDX call runs in

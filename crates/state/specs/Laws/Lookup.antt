@@ -11,7 +11,7 @@ use Rattle.bounded.specs.Place.{PlaceFound, PlaceMissing, search-cases, found-b
 use Rattle.bounded.specs.Search.{first}
 use Rattle.state.specs.Places.{noObject, noEstate, freeObject, objectAt, estateOf}
 use Rattle.state.specs.Extent.{free, covers, apart}
-use Rattle.state.specs.Lookup.{hasBase, objectWhere, placeWhere, covering, based, objectBased, placeAbove, hasRoom}
+use Rattle.state.specs.Lookup.{hasBase, endsBehind, objectWhere, placeWhere, covering, based, objectBased, placeAbove, hasRoom}
 use Rattle.state.specs.Laws.Extent.{not-zero, covers-parts, parts-covers, apart-covers}
 use Rattle.state.specs.declared.Object.{Object}
 use Rattle.state.specs.declared.Estate.{Estate}
@@ -114,7 +114,7 @@ unfolding objectBased based
 based-base t base p = base-same base (objectBased t base) (pages-stands (hasBase base) (estateOf t base) p .passes)
 
 -- nothing is found in no estate
-where-none : (test : Object → Bool) → test noObject ≡ false → objectWhere test noEstate ≡ freeObject
+pub where-none : (test : Object → Bool) → test noObject ≡ false → objectWhere test noEstate ≡ freeObject
 unfolding first
 where-none test h = rw h
 
@@ -123,5 +123,5 @@ unfolding based
 based-none page = where-none (hasBase page) refl
 
 pub covering-none : (page : ℕ) → covering noEstate page ≡ freeObject
-unfolding covering covers
-covering-none page = where-none (λ o. covers o page) (rw (le-leb 0 page (omega arith), le-ltb page 0 (omega arith)))
+unfolding covering
+covering-none page = rw (where-none (endsBehind page) (le-ltb page 0 (omega arith)), le-leb 0 page (omega arith))
