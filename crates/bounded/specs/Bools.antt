@@ -4,7 +4,7 @@ use mathlib.Core.Path.{_≡_, refl}
 use mathlib.Core.Bool.{Bool, true, false, cond, _&&_, _||_, true≢false}
 use mathlib.Core.Logic.{_⊎_, inl, inr}
 use lib.Dec.{leb, eqb}
-use borrow.Author.Tests.{lt-leb, leb-false, eqb-true, eqb-false}
+use borrow.Author.Tests.{lt-leb, eqb-true, eqb-false}
 
 pub and-left : (a b : Bool) → (a && b) ≡ true → a ≡ true
 and-left true b h = refl
@@ -24,13 +24,6 @@ and-no false q = refl
 -- `b` holds wherever `k < n`: the guard of a place that may be unused
 pub guarded : (n k : ℕ) (b : Bool) → (leb n k || b) ≡ true → k < n → b ≡ true
 guarded n k b h l = rw (lt-leb n k l) at h
-
-pub guard : (n k : ℕ) (b : Bool) → (k < n → b ≡ true) → (leb n k || b) ≡ true
-guard n k b h = by-flag (leb n k) refl
-  where
-    by-flag : (t : Bool) → leb n k ≡ t → (t || b) ≡ true
-    by-flag true e = refl
-    by-flag false e = h (leb-false n k e)
 
 -- `b` holds unless `a` does
 pub unless : (a b : Bool) → (a || b) ≡ true → a ≡ false → b ≡ true

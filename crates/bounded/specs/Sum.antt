@@ -1,6 +1,6 @@
 -- Sums over the places below a bound.
 use Prim.Native.Nat.{ℕ, suc, _+_, _<_}
-use mathlib.Core.Path.{_≡_, refl, sym, ap, _∙_}
+use mathlib.Core.Path.{_≡_, refl}
 use mathlib.Core.List.{List}
 use mathlib.Core.Logic.{_⊎_, inl, inr}
 use native.Mathlib.Omega.{arith}
@@ -38,17 +38,6 @@ total-one (suc n) i f g l h = go (λ m. total-one n i f g m (λ k o. h k (omega 
 -- a sum of one place, the others 0
 pub total-only : (n i : ℕ) (f : ℕ → ℕ) → i < n → ((k : ℕ) → k < n → (k ≡ i → ⊥) → f k ≡ 0) → total n f ≡ f i
 total-only n i f l h = omega (arith, total-one n i f (λ k. 0) l h, total-none n (λ k. 0) (λ k m. refl))
-
-total-add : (n : ℕ) (f g : ℕ → ℕ) → total n (λ i. f i + g i) ≡ total n f + total n g
-unfolding total
-total-add ℕ.zero f g = refl
-total-add (suc n) f g = omega (arith, total-add n f g)
-
--- a sum of sums, either way round
-pub total-swap : (n m : ℕ) (f : ℕ → ℕ → ℕ) → total n (λ i. total m (f i)) ≡ total m (λ j. total n (λ i. f i j))
-unfolding total
-total-swap ℕ.zero m f = sym (total-none m (λ j. 0) (λ j l. refl))
-total-swap (suc n) m f = ap (λ x. x + total m (f n)) (total-swap n m f) ∙ sym (total-add m (λ j. total n (λ i. f i j)) (f n))
 
 -- a sum over a list, one place of it set
 pub total-set : {A : Type 0} (n : ℕ) (g : A → ℕ) (l : List A) (i : ℕ) (v d : A) → i < n → length l ≡ n

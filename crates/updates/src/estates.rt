@@ -27,7 +27,7 @@ fn place_above(e: Estate, base: u8) -> usize
     8
 }
 
-// An object more, before the first with a higher base; what stands at the last place gives way.
+// An object more, before the first with a higher base. Where there is no room, the last gives way, or the new one finds no place.
 pub fn insert_object(e: Estate, o: Object) -> Estate
     ensures { λ r. ⌜ r ≡ insertObject e o ⌝ }
 {

@@ -96,7 +96,7 @@ create-range p n k a r =
     }
 
 -- a new object that lies in the estate and meets no other, where there is room
-pub new-fit : (e : Estate) (d p n k a : ℕ) → inRange (OnObject (Create p n k a)) ≡ true → estateOk e d ≡ true
+new-fit : (e : Estate) (d p n k a : ℕ) → inRange (OnObject (Create p n k a)) ≡ true → estateOk e d ≡ true
     → liesIn (newObject p n k a) d && runFree e (newObject p n k a) ≡ true → hasRoom e ≡ true
     → (estateOk (insertObject e (newObject p n k a)) d ≡ true) × (p + n ≤ 32 * d + 32)
 unfolding liesIn runFree newObject inRange

@@ -5,7 +5,6 @@ use mathlib.Core.Bool.{true}
 use mathlib.Core.List.{List, _∷_}
 use mathlib.Core.Logic.{_⊎_, inl, inr, ⊎-elim}
 use mathlib.Core.Option.{Option, none, some}
-use native.Mathlib.Omega.{arith}
 use lib.ListN.{length}
 use borrow.Author.Tests.{eqb-true, ltb-true}
 use Rattle.state.specs.Places.{domainAt}
@@ -18,7 +17,7 @@ use Rattle.calls.specs.Step.{Result, refused, done, concluded, storeChec
 use Rattle.calls.specs.Laws.Order.{allChecks, AllHold, none-fails, refused-is}
 use Rattle.calls.specs.declared.Call.{Call}
 use Rattle.calls.specs.declared.Refusal.{Refusal}
-use Rattle.calls.specs.declared.Answer.the-variants.{Done, Refused}
+use Rattle.calls.specs.declared.Answer.the-variants.{Refused}
 
 -- the result of a refused call: the world that came in, the value 0, no fields
 pub record Unchanged (w : World) (r : Result) : Type 0 where
@@ -77,7 +76,3 @@ module _ (w : World) (d : ℕ) (c : Call) where
   unchecked-cases =
       ⊎-elim inl (λ t. let (h, e) = t in inr (passed w d c h, e))
       (cases (storeCheck w ∷ checks d c (view judged w d c)) (view judged w d c))
-
-  -- a done call passes
-  pub done-passes : (x : ℕ) → step w d c .outcome .answer ≡ Done x → (sound (w .state) ≡ true) × Does w d c (step w d c)
-  done-passes x h = ⊎-elim (λ e. let z : Refused (e .0) ≡ Done x = rw (e .1) at h in let y : _≡_ {A = ℕ} 0 1 = cc in absurd (omega arith)) (λ e. e) step-cases

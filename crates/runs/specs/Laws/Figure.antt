@@ -4,8 +4,8 @@ use mathlib.Core.Path.{_≡_, refl}
 use mathlib.Core.Bool.{true, cond}
 use mathlib.Core.Logic.{_⊎_, inl, inr}
 use native.Mathlib.Omega.{arith}
-use lib.Dec.{leb, ltb, eqb}
-use borrow.Author.Tests.{ltb-true, leb-true, eqb-true, ne-eqb}
+use lib.Dec.{leb, eqb}
+use borrow.Author.Tests.{leb-true, eqb-true, ne-eqb}
 use Rattle.bounded.specs.Bools.{cond-ind}
 use Rattle.state.specs.Places.{estateAt, domainAt, limitAt}
 use Rattle.state.specs.Lookup.{hasBase, placeWhere, hasRoom, placeBased, based, objectBased}
@@ -15,7 +15,6 @@ use Rattle.state.specs.Laws.Pages.{put-pages, insert-pages, remove-pages, estat
 use Rattle.state.specs.declared.Object.{Object}
 use Rattle.state.specs.declared.Frame.{Frame}
 use Rattle.state.specs.declared.Table.{Table}
-use Rattle.state.specs.declared.State.{State}
 use Rattle.soundness.specs.Sound.{sound}
 use Rattle.soundness.specs.Laws.StateParts.{state-parts, estate-parts}
 use Rattle.judge.specs.Judged.{judged}

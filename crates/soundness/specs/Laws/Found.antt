@@ -13,7 +13,7 @@ use Rattle.state.specs.Places.{noEstate, freeObject, objectAt, estateAt, estate
 use Rattle.state.specs.Extent.{covers}
 use Rattle.state.specs.Lookup.{hasBase, endsBehind, objectWhere, placeWhere, covering, based, objectCovering, objectBased}
 use Rattle.state.specs.Laws.Extent.{zero-not, covers-parts, parts-covers}
-use Rattle.state.specs.Laws.Lookup.{Stands, place-stands, none-stands, none-found, place-bound, pages-stands, some-stands, found-or-free, none-answered, where-none, covering-none, Single, covers-standing, covers-single, base-standing, base-single}
+use Rattle.state.specs.Laws.Lookup.{Stands, place-stands, none-stands, none-found, place-bound, pages-stands, some-stands, found-or-free, none-answered, where-none, covering-none, Single, covers-standing, base-standing, base-single}
 use Rattle.soundness.specs.Sound.{objectOk, estateOk, sound}
 use Rattle.soundness.specs.Laws.ObjectParts.{ObjectBounds, object-parts}
 use Rattle.soundness.specs.Laws.StateParts.{estate-parts, state-parts}
@@ -153,11 +153,6 @@ pub based-answered : (s : State) (page : ℕ) → sound s ≡ true → Answered 
 unfolding objectBased based
 based-answered s page h = record { bounds = λ p. based-sound s page h p .bounds; none = none-answered _ (base-standing page) (estateOf (s .table) page) }
 
--- the object that has a page has it
-pub covering-has : (s : State) (page : ℕ) → sound s ≡ true → 0 < objectCovering (s .table) page .pages
-    → (objectCovering (s .table) page .base ≤ page) × (page < objectCovering (s .table) page .base + objectCovering (s .table) page .pages)
-covering-has s page h p = rw (state-covering s page h) (covers-parts _ page (covering-sound s page h p .stands .passes))
-
 -- what one lookup finds another finds too, in the same estate, where no two objects that are apart pass its test
 found-again : (test other : Object → Bool) (s : State) (page next : ℕ) → Single other → FoundSound test s page → next / 32 ≡ page / 32
     → other (objectWhere test (estateOf (s .table) page)) ≡ true
@@ -179,16 +174,6 @@ covering-based s page h p =
     rw (state-covering s page h)
     (found-again (λ o. covers o page) (hasBase (o .base)) s page (o .base) (base-single _) f (omega (arith, f .bounds .from, f .bounds .to))
     (and-both (ap not (zero-not _ q)) (eq-eqb (o .base) _ refl)))
-
--- and the object with a base has each page of its run
-pub based-covering : (s : State) (base page : ℕ) → sound s ≡ true → 0 < objectBased (s .table) base .pages → covers (objectBased (s .table) base) page ≡ true
-    → objectCovering (s .table) page ≡ objectBased (s .table) base
-unfolding objectBased based
-based-covering s base page h p c =
-    let f = based-sound s base h p in
-    state-covering s page h ∙
-    found-again (hasBase base) (λ o. covers o page) s base page (covers-single page) f
-    (omega (arith, f .bounds .from, f .bounds .to, covers-parts (objectBased (s .table) base) page c)) c
 
 -- the object with a base keeps its bounds, where it stands
 pub based-ok : (s : State) (base : ℕ) → sound s ≡ true → 0 < objectBased (s .table) base .pages → objectOk (objectBased (s .table) base) (base / 32) ≡ true

@@ -1,7 +1,7 @@
 -- ONE STATE IS ONE VALUE: document 02, T-06. Two sound states with the same objects have the same object table.
-use Prim.Native.Nat.{ℕ, suc, _+_, _/_, _<_, _≤_}
+use Prim.Native.Nat.{ℕ, suc, _/_, _<_, _≤_}
 use mathlib.Core.Path.{_≡_, refl, ap, sym, _∙_}
-use mathlib.Core.Bool.{Bool, true, false, not}
+use mathlib.Core.Bool.{true, false, not}
 use mathlib.Core.List.{List}
 use mathlib.Core.Logic.{_⊎_, inl, inr, ⊎-elim}
 use native.Mathlib.Omega.{arith}
@@ -12,7 +12,7 @@ use lib.Seq.{getD-take}
 use borrow.Author.Tests.{ltb-true, ltb-false, eq-eqb}
 use Rattle.bounded.specs.Bools.{flag, and-both, same-or-not}
 use Rattle.bounded.specs.Fill.{by-places}
-use Rattle.state.specs.Places.{noPassword, noObject, noEstate, freeObject, passwordAt, objectAt, estateAt}
+use Rattle.state.specs.Places.{noPassword, noObject, noEstate, passwordAt, objectAt, estateAt}
 use Rattle.state.specs.Lookup.{hasBase, placeWhere, based, objectBased, freePasswordPlace}
 use Rattle.state.specs.Laws.Extent.{zero-not}
 use Rattle.state.specs.Laws.Lookup.{base-single, pages-stands}

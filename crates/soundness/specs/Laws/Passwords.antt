@@ -1,29 +1,22 @@
 -- The passwords of an object that keeps its bounds.
 use Prim.Native.Nat.{ℕ, suc, _<_, _≤_}
-use mathlib.Core.Path.{_≡_, ap, sym, _∙_}
-use mathlib.Core.Bool.{true, not, _&&_, true≢false}
-use mathlib.Core.Logic.{_↔_, _⊎_, inl, inr, ⊎-elim}
+use mathlib.Core.Path.{_≡_, sym, _∙_}
+use mathlib.Core.Bool.{true, not}
+use mathlib.Core.Logic.{_⊎_, inl, inr}
 use native.Mathlib.Omega.{arith}
-use lib.Dec.{eqb}
 use lib.ListN.{getD}
 use borrow.Author.Tests.{eq-eqb}
-use Rattle.bounded.specs.Bools.{and-both, cond-ind, same-or-not}
+use Rattle.bounded.specs.Bools.{same-or-not}
 use Rattle.bounded.specs.Fill.{tabulate-at}
 use Rattle.bounded.specs.Place.{found-some}
 use Rattle.rights.specs.Modes.{legal}
 use Rattle.state.specs.Places.{passwordAt}
-use Rattle.state.specs.Lookup.{placeOf, ordinaryMode, modeOf, hasPassword}
-use Rattle.state.specs.Laws.Extent.{zero-not}
-use Rattle.state.specs.Laws.Passwords.{shows, Ordinary, ordinary-some, has-parts, ordinary-mode, mode-has}
+use Rattle.state.specs.Lookup.{placeOf, ordinaryMode}
+use Rattle.state.specs.Laws.Passwords.{shows, Ordinary, ordinary-some, ordinary-mode}
 use Rattle.soundness.specs.Sound.{distinct, allPasswords}
 use Rattle.soundness.specs.Laws.Distinct.{distinct-at}
 use Rattle.soundness.specs.Laws.ObjectParts.{ObjectBounds}
 use Rattle.state.specs.declared.Object.{Object}
-
--- a legal mode is not 0
-pub legal-some : (m : ℕ) → legal m ≡ true → 0 < m
-legal-some ℕ.zero h = absurd (true≢false (sym h))
-legal-some (ℕ.suc m) h = omega arith
 
 -- in an object that keeps its bounds that mode is legal
 pub ordinary-legal : (o : Object) (word d : ℕ) → ObjectBounds o d → Ordinary o word → 0 < word → legal (ordinaryMode o word) ≡ true
@@ -55,14 +48,3 @@ ordinary-only o word k h p l e = go (same-or-not (placeOf o word) k)
 -- and it is not that of the registration
 pub ordinary-registration : (o : Object) (word : ℕ) → distinct (allPasswords o) ≡ true → 0 < word → Ordinary o word → o .registration .password ≡ word → ⊥
 ordinary-registration o word h p r e = twice o word 0 (suc (placeOf o word)) h p (omega arith) (omega arith) e (word-at o _ (r .within) ∙ r .there)
-
--- in an object that keeps its bounds a word is a password exactly where it has a mode
-pub has-exactly : (o : Object) (word d : ℕ) → ObjectBounds o d → hasPassword o word ≡ true ↔ 0 < modeOf o word
-unfolding modeOf
-has-exactly o word d b = (λ h. mode (has-parts o word h), mode-has o word)
-  where
-    mode : (0 < word) × ((o .registration .password ≡ word) ⊎ Ordinary o word) → 0 < modeOf o word
-    mode r =
-        cond-ind (λ n. 0 < n) (not (eqb word 0) && eqb (o .registration .password) word) 16 (ordinaryMode o word) (λ e. omega arith)
-        (λ e. ⊎-elim (λ g. absurd (true≢false (sym (and-both (ap not (zero-not word (r .0))) (eq-eqb _ _ g)) ∙ e)))
-        (λ q. legal-some _ (ordinary-legal o word d b q (r .0))) (r .1))

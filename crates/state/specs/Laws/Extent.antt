@@ -85,11 +85,6 @@ drop-run o word =
     (λ e. cond-ind (λ x. SameRun x o) (eqb (o .registration .password) word) _ _ (λ r. register-run o freeRegistration)
     (λ r. record { base = refl; pages = refl }))
 
--- whether two objects are apart hangs on their runs alone
-pub apart-run : (a b c : Object) → SameRun b c → apart a c ≡ true → apart a b ≡ true
-unfolding apart
-apart-run a b c r h = rw (r .base, r .pages) h
-
 -- a free object is apart from each
 pub apart-free : (a o : Object) → o .pages ≡ 0 → apart a o ≡ true
 apart-free a o z = parts-apart a o (λ p q. absurd (omega arith))

@@ -8,7 +8,7 @@ use lib.Dec.{eqb}
 use lib.ListN.{getD-replicate}
 use borrow.Author.Tests.{eqb-true, eqb-false, eq-eqb, ne-eqb, not-true}
 use Rattle.bounded.specs.Bools.{and-left, and-right, or-unless, same-or-not}
-use Rattle.bounded.specs.Place.{search-cases, found-below, missing-end, found-some, search-value, search-none}
+use Rattle.bounded.specs.Place.{search-cases, found-below, found-some, search-value, search-none}
 use Rattle.bounded.specs.Search.{first}
 use Rattle.state.specs.Places.{noPassword, freeObject, passwordAt}
 use Rattle.state.specs.Lookup.{placeOf, ordinaryMode, modeOf, hasPassword}
@@ -38,11 +38,6 @@ ordinary-some o word k l h = ordinary-place o word (found-some (shows o word) 4 
 pub place-of-bound : (o : Object) (word : ℕ) → placeOf o word ≤ 4
 unfolding placeOf
 place-of-bound o word = ⊎-elim (λ f. omega arith) (λ m. omega arith) (search-cases (shows o word) 4)
-
--- at 4 the word is none of the ordinary passwords
-pub ordinary-none : (o : Object) (word : ℕ) → placeOf o word ≡ 4 → (k : ℕ) → k < 4 → passwordAt o k .word ≡ word → ⊥
-unfolding placeOf
-ordinary-none o word h k l = eqb-false _ _ (missing-end (shows o word) 4 h .none k l)
 
 -- a password of the object is nonzero, and the registration's or an ordinary one
 pub has-parts : (o : Object) (word : ℕ) → hasPassword o word ≡ true → (0 < word) × ((o .registration .password ≡ word) ⊎ Ordinary o word)
