@@ -7,10 +7,11 @@ use native.Mathlib.Omega.{arith}
 use lib.Dec.{leb, ltb, eqb}
 use lib.ListN.{length, getD, replicate}
 use lib.Seq.{getD-set-other}
-use borrow.Author.Tests.{ltb-true, ltb-false, eqb-false}
+use borrow.Author.Tests.{ltb-true}
 use Rattle.bounded.specs.Bools.{and-left, cond-ind}
 use Rattle.bounded.specs.Every.{set-at}
 use Rattle.bounded.specs.Fill.{tabulate-at}
+use Rattle.bounded.specs.Shift.{in-cases, out-cases}
 use Rattle.state.specs.Places.{noCapability, noFrame, emptyFrame, slotAt}
 use Rattle.state.specs.Update.{slotIn, slotOut, insertSlot, removeSlot, lockSlot, mergeList, onlyList, saveDomain, restoreDomain}
 use Rattle.state.specs.declared.Capability.{Capability}
@@ -38,9 +39,7 @@ module _ (G : Group) where
       (λ r k m. rw (tabulate-at 8 (slotIn f at c) k noCapability (omega (arith, ltb-true (f .count) 8 r))) (in-k k m)) (λ r. h)
     where
       in-k : (k : ℕ) → k < f .count + 1 → Page G (slotIn f at c k)
-      in-k k m =
-          cond-ind (Page G) (ltb k at) (slotAt f k) _ (λ e. h k (omega (arith, ltb-true k at e)))
-          (λ e. cond-ind (Page G) (eqb k at) c (slotAt f (k - 1)) (λ g. p) (λ g. h (k - 1) (omega (arith, ltb-false k at e, eqb-false k at g))))
+      in-k k m = in-cases (slotAt f) at c (Page G) k (λ b. h k (omega arith)) (λ e. p) (λ b. h (k - 1) (omega arith))
 
   -- a slot less
   pub remove-in : (f : Frame) (at : ℕ) → f .count ≤ 8 → FrameIn G f → FrameIn G (removeSlot f at)
@@ -51,9 +50,7 @@ module _ (G : Group) where
     where
       in-k : (k : ℕ) → k < f .count - 1 → Page G (slotOut f at k)
       in-k k m =
-          cond-ind (Page G) (ltb k at) (slotAt f k) _ (λ e. h k (omega arith))
-          (λ e. cond-ind (Page G) (ltb k 7) (slotAt f (k + 1)) noCapability (λ g. h (k + 1) (omega arith))
-          (λ g. absurd (omega (arith, ltb-false k 7 g))))
+          out-cases (slotAt f) 7 noCapability at (Page G) k (λ b. h k (omega arith)) (λ b e. h (k + 1) (omega arith)) (λ b e. absurd (omega arith))
 
   -- a lock
   pub lock-in : (f : Frame) (i : ℕ) → FrameIn G f → FrameIn G (lockSlot f i)

@@ -5,9 +5,10 @@ use mathlib.Core.Bool.{Bool, true, false}
 use native.Mathlib.Omega.{arith}
 use lib.Dec.{ltb, eqb}
 use lib.ListN.{getD-replicate}
-use borrow.Author.Tests.{ltb-true, ltb-false, lt-ltb, le-ltb, eqb-false, ne-eqb}
+use borrow.Author.Tests.{ltb-true, eqb-false}
 use Rattle.bounded.specs.Bools.{cond-ind}
 use Rattle.bounded.specs.Fill.{tabulate, tabulate-at}
+use Rattle.bounded.specs.Shift.{in-cases, out-cases}
 use Rattle.state.specs.Places.{noCapability, slotAt}
 use Rattle.state.specs.Update.{slotIn, insertSlot, slotOut, removeSlot, lockSlot, mergeList, onlyList}
 use Rattle.soundness.specs.Sound.{frameOk}
@@ -42,12 +43,12 @@ insert-sound f at c l p h =
 
     in-k : (k : ℕ) → k < f .count + 1 → slotIn f at c k .page < 128
     in-k k m =
-        cond-ind (λ x. x .page < 128) (ltb k at) (slotAt f k) _ (λ e. q .slot k (omega (arith, ltb-true k at e)))
-        (λ e. cond-ind (λ x. x .page < 128) (eqb k at) c (slotAt f (k - 1)) (λ g. p)
-        (λ g. q .slot (k - 1) (omega (arith, ltb-false k at e, eqb-false k at g))))
+        in-cases (slotAt f) at c (λ x. x .page < 128) k (λ b. q .slot k (omega arith)) (λ e. p) (λ b. q .slot (k - 1) (omega arith))
 
     in-past : (k : ℕ) → k < 8 → f .count + 1 ≤ k → slotIn f at c k ≡ noCapability
-    in-past k m n = rw (le-ltb k at (omega arith), ne-eqb k at (λ e. omega arith)) (q .past (k - 1) (omega arith) (omega arith))
+    in-past k m n =
+        in-cases (slotAt f) at c (λ x. x ≡ noCapability) k (λ b. absurd (omega arith)) (λ e. absurd (omega arith))
+        (λ b. q .past (k - 1) (omega arith) (omega arith))
 
 -- a slot less, none of the locked ones
 pub remove-sound : (f : Frame) (at : ℕ) → f .locked ≤ at → frameOk false f ≡ true → frameOk false (removeSlot f at) ≡ true
@@ -63,14 +64,13 @@ remove-sound f at l h =
 
     out-k : (k : ℕ) → k < f .count - 1 → slotOut f at k .page < 128
     out-k k m =
-        cond-ind (λ x. x .page < 128) (ltb k at) (slotAt f k) _ (λ e. q .slot k (omega arith))
-        (λ e. rw (lt-ltb k 7 (omega (arith, q .fits))) (q .slot (k + 1) (omega arith)))
+        out-cases (slotAt f) 7 noCapability at (λ x. x .page < 128) k (λ b. q .slot k (omega arith)) (λ b e. q .slot (k + 1) (omega arith))
+        (λ b e. absurd (omega (arith, q .fits)))
 
     out-past : at < f .count → (k : ℕ) → k < 8 → f .count - 1 ≤ k → slotOut f at k ≡ noCapability
     out-past s k m n =
-        rw (le-ltb k at (omega arith))
-        (cond-ind (λ x. x ≡ noCapability) (ltb k 7) (slotAt f (k + 1)) noCapability
-        (λ e. q .past (k + 1) (omega (arith, ltb-true k 7 e)) (omega arith)) (λ e. refl))
+        out-cases (slotAt f) 7 noCapability at (λ x. x ≡ noCapability) k (λ b. absurd (omega arith))
+        (λ b e. q .past (k + 1) (omega arith) (omega arith)) (λ b e. refl)
 
 -- a lock on a slot that stands, or on the whole list
 pub lock-sound : (f : Frame) (slot : ℕ) → ((slot ≡ 255 → ⊥) → slot < f .count) → frameOk false f ≡ true → frameOk false (lockSlot f slot) ≡ true
