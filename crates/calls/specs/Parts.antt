@@ -2,7 +2,7 @@
 -- beside the part that the call changes. Put into any state with these parts, they make what the call does there.
 use Prim.Native.Nat.{ℕ, _/_, _<_}
 use mathlib.Core.Path.{_≡_}
-use mathlib.Core.Bool.{cond}
+use mathlib.Core.Bool.{Bool, cond}
 use mathlib.Core.List.{List}
 use lib.Dec.{ltb, eqb}
 use lib.ListN.{length}
@@ -48,6 +48,10 @@ unaltered t why = record { answer = Answer·Refused why; place = 0; estate = est
 -- by a done one the estate in which the page lies, as it is then
 abbrev pub altered : Table → ℕ → Estate → Altered
 altered t b e = cond (ltb b 128) (record { answer = Done 0; place = b / 32; estate = e }) (unaltered t OutOfRange)
+
+-- an estate with another object at a place; or, where none stands, without the one there
+abbrev pub replaced : Estate → ℕ → Object → Bool → Estate
+replaced e k o stands = cond stands (withObject e k o) (removeObject e k)
 
 -- where the object with a base becomes another, and where it goes
 abbrev pub becoming : Table → ℕ → Object → Altered

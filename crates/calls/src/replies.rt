@@ -6,18 +6,22 @@ use crate::Moved;
 use crate::Outcome;
 use crate::Refusal;
 use state::Domain;
+use state::Estate;
 use state::Object;
 use state::State;
 use state::Table;
 use state::estates::place_based;
+use state::objects::free_object;
 use updates::estates::remove_object;
 use updates::estates::with_domain;
 use updates::estates::with_estate;
 use updates::estates::with_object;
 ghost use mathlib.Core.Path.{_≡_};
+ghost use Rattle.state.specs.Places.{estateOf};
+ghost use Rattle.state.specs.Lookup.{placeBased};
 ghost use Rattle.calls.specs.Answers.{refusalNumber, noFields};
 ghost use Rattle.calls.specs.Step.{answeredWith};
-ghost use Rattle.calls.specs.Parts.{unaltered, becoming, going, moved, stays, withAltered, withMoved};
+ghost use Rattle.calls.specs.Parts.{unaltered, altered, replaced, becoming, going, moved, stays, withAltered, withMoved};
 
 // The number of a refusal.
 pub fn refusal_number(why: Refusal) -> u64
@@ -95,9 +99,19 @@ pub fn unaltered(t: Table, why: Refusal) -> Altered
     }
 }
 
-// A done call on objects, in which the object with the base has become another.
-pub fn becomes(t: Table, base: u64, o: Object) -> Altered
-    ensures { λ r. ⌜ r ≡ becoming t base o ⌝ }
+// An estate with another object at a place; or, where none stands, without the one there.
+fn replaced(e: Estate, at: usize, o: Object, stands: bool) -> Estate
+    ensures { λ r. ⌜ r ≡ replaced e at o stands ⌝ }
+{
+    if stands {
+        return with_object(e, at, o);
+    }
+    remove_object(e, at)
+}
+
+// A done call on objects, by which the object with the base is o now, or is gone.
+fn replaces(t: Table, base: u64, o: Object, stands: bool) -> Altered
+    ensures { λ r. ⌜ r ≡ altered t base (replaced (estateOf t base) (placeBased (estateOf t base) base) o stands) ⌝ }
 {
     if 128 <= base {
         return unaltered(t, Refusal::OutOfRange);
@@ -107,24 +121,22 @@ pub fn becomes(t: Table, base: u64, o: Object) -> Altered
     Altered {
         answer: Answer::Done(0),
         place: place,
-        estate: with_object(e, place_based(e, base), o),
+        estate: replaced(e, place_based(e, base), o, stands),
     }
+}
+
+// A done call on objects, in which the object with the base has become another.
+pub fn becomes(t: Table, base: u64, o: Object) -> Altered
+    ensures { λ r. ⌜ r ≡ becoming t base o ⌝ }
+{
+    replaces(t, base, o, true)
 }
 
 // A done call on objects, by which the object with the base is gone.
 pub fn goes(t: Table, base: u64) -> Altered
     ensures { λ r. ⌜ r ≡ going t base ⌝ }
 {
-    if 128 <= base {
-        return unaltered(t, Refusal::OutOfRange);
-    }
-    let place = (base / 32) as usize;
-    let e = t.estates[place];
-    Altered {
-        answer: Answer::Done(0),
-        place: place,
-        estate: remove_object(e, place_based(e, base)),
-    }
+    replaces(t, base, free_object(), false)
 }
 
 // A done call on the caller's domain, which is now m.

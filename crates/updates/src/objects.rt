@@ -58,22 +58,37 @@ pub fn add_password(o: Object, word: u64, mode: u8) -> Object
     )
 }
 
+// Other ordinary passwords.
+fn with_passwords(o: Object, passwords: [Password; 4]) -> Object
+    ensures { λ r. ⌜ r ≡ withPasswords o passwords ⌝ }
+{
+    let mut r = o;
+    r.passwords = passwords;
+    r
+}
+
 // A password less; the younger ones close the gap. Past the last place nothing changes.
 fn without_password(o: Object, at: usize) -> Object
     ensures { λ r. ⌜ r ≡ withPasswords o (tabulate 4 (passwordOut o at)) ⌝ }
 {
-    if 4 <= at {
-        return o;
+    let p = o.passwords[0];
+    let q = o.passwords[1];
+    let r = o.passwords[2];
+    let s = o.passwords[3];
+    let none = Password { word: 0, mode: 0 };
+    if at == 0 {
+        return with_passwords(o, [q, r, s, none]);
     }
-    let mut r = o;
-    let mut k = at;
-    while k < 3 {
-        let p = r.passwords[k + 1];
-        r.passwords[k] = p;
-        k += 1;
+    if at == 1 {
+        return with_passwords(o, [p, r, s, none]);
     }
-    r.passwords[3] = Password { word: 0, mode: 0 };
-    r
+    if at == 2 {
+        return with_passwords(o, [p, q, s, none]);
+    }
+    if at == 3 {
+        return with_passwords(o, [p, q, r, none]);
+    }
+    o
 }
 
 // Drops a password, or the registration that has it. An absent password changes nothing.

@@ -1,16 +1,18 @@
--- The order of the objects of a sound estate: document 02, T-06. They stand in the first places, by rising base, and no two have a page in
--- common.
+-- The order of the objects of a sound estate: document 02, T-06. They stand in the first places, by rising base, no two have a page in
+-- common, and there is room for another unless eight stand.
 use Prim.Native.Nat.{ℕ, suc, _+_, _<_, _≤_}
-use mathlib.Core.Path.{_≡_, refl}
+use mathlib.Core.Path.{_≡_, refl, ap, sym}
 use mathlib.Core.Bool.{Bool, true, false, not}
 use mathlib.Core.Logic.{_⊎_, inl, inr}
 use native.Mathlib.Omega.{arith}
 use native.Mathlib.Numerals.{add-one}
 use lib.Dec.{ltb}
 use borrow.Author.Tests.{leb-true, le-leb, ltb-true, ltb-false, not-true}
-use Rattle.bounded.specs.Bools.{and-left, and-right, unless, or-unless, same-or-not}
+use Rattle.bounded.specs.Bools.{and-left, and-right, and-no, unless, or-unless, same-or-not}
+use Rattle.bounded.specs.Every.{below, below-all}
 use Rattle.state.specs.Places.{objectAt}
 use Rattle.state.specs.Extent.{free, apart}
+use Rattle.state.specs.Lookup.{hasRoom}
 use Rattle.state.specs.Laws.Extent.{zero-not, not-zero, parts-apart, SameRun}
 use Rattle.soundness.specs.Sound.{follows, estateOk}
 use Rattle.soundness.specs.Laws.StateParts.{estate-parts}
@@ -66,3 +68,15 @@ module _ (e : Estate) (d : ℕ) (h : estateOk e d ≡ true) where
       go : (b : Bool) → ltb i j ≡ b → apart (objectAt e i) (objectAt e j) ≡ true
       go true t = parts-apart _ _ (λ p q. inl (estate-before i j (ltb-true i j t) m q .ends))
       go false t = parts-apart _ _ (λ p q. inr (estate-before j i (omega (arith, ltb-false i j t)) l p .ends))
+
+  -- FULL: there is no room exactly where an object stands at each of the eight places
+  pub room-exactly : hasRoom e ≡ not (below 8 (λ k. not (free (objectAt e k))))
+  unfolding hasRoom below
+  room-exactly = go (free (objectAt e 7)) refl
+    where
+      stands : free (objectAt e 7) ≡ false → (k : ℕ) → k < 7 → not (free (objectAt e k)) ≡ true
+      stands t k l = ap not (zero-not _ (estate-before k 7 l (omega arith) (not-zero _ t) .stands))
+
+      go : (b : Bool) → free (objectAt e 7) ≡ b → hasRoom e ≡ not (below 8 (λ k. not (free (objectAt e k))))
+      go true t = rw t (ap not (sym (and-no (below 7 (λ k. not (free (objectAt e k)))) refl)))
+      go false t = rw (t, below-all 7 (λ k. not (free (objectAt e k))) (stands t))
