@@ -1,4 +1,5 @@
-use Rattle.accounts.specs.Figured.{left-figured}
+use Rattle.ending.specs.Printed.{left-printed}
+use Rattle.figures.specs.Lines.{figureLines}
 use borrow.Author.Needs.{needs}
 use Rattle.accounts.proofs.end_text.Statement.{statement}
 use Rattle.accounts.proofs.end_text.Tie as tie
@@ -9,4 +10,4 @@ end-text-spec =
     (tie.spec (λ c κs. search needs) (λ c κs. search needs)
     (λ c.
     let p = c .figure-text .ensures in
-    (rw (p .0) (left-figured _ (c .before .end-table .ensures)), p .1)))
+    (rw (p .0) (left-printed figureLines _ (c .before .end-table .ensures)), p .1)))

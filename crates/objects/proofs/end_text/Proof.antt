@@ -1,4 +1,5 @@
-use Rattle.objects.specs.Listed.{left-listed}
+use Rattle.ending.specs.Printed.{left-printed}
+use Rattle.listing.specs.Lines.{listing}
 use borrow.Author.Needs.{needs}
 use Rattle.objects.proofs.end_text.Statement.{statement}
 use Rattle.objects.proofs.end_text.Tie as tie
@@ -9,4 +10,4 @@ end-text-spec =
     (tie.spec (λ c κs. search needs) (λ c κs. search needs)
     (λ c.
     let p = c .listing-text .ensures in
-    (rw (p .0) (left-listed _ (c .before .end-table .ensures)), p .1)))
+    (rw (p .0) (left-printed listing _ (c .before .end-table .ensures)), p .1)))
