@@ -12,11 +12,11 @@ module _ {A : Type 0} (test : ℕ → Bool) (value : ℕ → A) (none : A) where
   first i ℕ.zero = none
   first i (suc n) = cond (test i) (value i) (first (i + 1) n)
 
-  first-end : (i n : ℕ) → n ≤ i → first i (n - i) ≡ none
+  pub first-end : (i n : ℕ) → n ≤ i → first i (n - i) ≡ none
   unfolding first
   first-end i n h = let e : n - i ≡ 0 = omega arith in rw e
 
-  first-step : (i n : ℕ) → i < n → first i (n - i) ≡ cond (test i) (value i) (first (i + 1) (n - (i + 1)))
+  pub first-step : (i n : ℕ) → i < n → first i (n - i) ≡ cond (test i) (value i) (first (i + 1) (n - (i + 1)))
   unfolding first
   first-step i n h = let e : n - i ≡ suc (n - (i + 1)) = omega arith in rw e
 

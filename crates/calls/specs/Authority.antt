@@ -30,7 +30,7 @@ pub record Reaches (w : World) (d : ℕ) (c : Call) : Type 0 where
   pub comes : Comes w d c
   pub unlocks : unlocked c (domainAt (w .state) d .active) ≡ true
 
--- a capability with all the rights stands in the domain's live lists, with no denying one before it
+-- a capability with all the rights stands in the domain's live lists, and no denying one anywhere in them
 abbrev pub GrantableTo : World → ℕ → Target → ℕ → Type 0
 GrantableTo w d target r = Grantable (w .state .table) (w .words) (domainAt (w .state) d .active) target r
 

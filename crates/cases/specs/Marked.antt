@@ -1,4 +1,4 @@
--- The marked cases of document 01, "The call program" and "Around the edges": one table, proved in one go.
+-- The marked cases of document 01, "The call program" and "Around the edges", with T-07 of document 02: one table, proved in one go.
 use Prim.Native.Nat.{ℕ}
 use mathlib.Core.Path.{_≡_, refl, _∙_}
 use mathlib.Core.List.{List, [], _∷_, _++_, map}
@@ -73,13 +73,14 @@ answers-after runs = map-same _ _ (λ es. answers-are (worldOf listingBoot) (boo
 pub by-computing : (runs : List (List Exchange)) → computedAfter searched runs ≡ expectedAfter runs → answersAfter runs ≡ expectedAfter runs
 by-computing runs p = answers-after runs ∙ by-search (λ j. computedAfter j runs ≡ expectedAfter runs) p
 
--- the cases; each starts after the whole listing
+-- The cases; each starts after the whole listing. The first write with mode 130, whose denying pair stands behind the granting one, is 7
+-- by document 02, T-07; document 01 has 0. All others are as in document 01.
 abbrev pub cases : List (List Exchange)
 cases =
     (by 0 (OnStore (Read 8192)) (5 ∷ 0 ∷ []) ∷ by 0 (OnStore (Read 8191)) (7 ∷ 0 ∷ []) ∷ [])
     ∷ (by 0 (OnObject (Create 31 2 9 0)) (9 ∷ 0 ∷ []) ∷ by 0 (OnObject (Create 31 1 9 0)) (0 ∷ 0 ∷ []) ∷ [])
     ∷ (by 0 (OnDomain (Lock 0)) (0 ∷ 0 ∷ []) ∷ by 0 (OnDomain (Remove 0)) (6 ∷ 0 ∷ []) ∷ [])
-    ∷ (mode130 21 22 ++ by 0 (OnStore (Write 64 5)) (0 ∷ 0 ∷ []) ∷ [])
+    ∷ (mode130 21 22 ++ by 0 (OnStore (Write 64 5)) (7 ∷ 0 ∷ []) ∷ [])
     ∷ (mode130 22 21 ++ by 0 (OnStore (Write 64 5)) (7 ∷ 0 ∷ []) ∷ by 0 (OnStore (Read 64)) (0 ∷ 0 ∷ []) ∷ [])
     ∷ (registered
     ++ by 0 (OnDomain (PdxCall 2113 0)) (8 ∷ 0 ∷ [])
@@ -107,6 +108,6 @@ computed : (answerOf listingBoot ∷ []) ∷ computedAfter searched cases ≡ wa
 unfolding answersBy
 computed = refl
 
--- every marked case is answered as the paper says
+-- every marked case is answered as the papers say
 pub marked : answered ≡ wantedAnswers
 marked = rw (answers-after cases) (by-search (λ j. (answerOf listingBoot ∷ []) ∷ computedAfter j cases ≡ wantedAnswers) computed)

@@ -12,7 +12,7 @@ use Rattle.state.specs.Update.{insertSlot, removeSlot, lockSlot, mergeList, onl
 use Rattle.state.specs.Pages.{estatePages, pagesOf, inSet}
 use Rattle.soundness.specs.Sound.{sound}
 use Rattle.clists.specs.Clist.{live, listEnd, untilEnd, clist, listAt}
-use Rattle.judge.specs.Search.{pairMode, verdictOf, pairVerdict, listVerdict, slotVerdict, frameVerdict, searched}
+use Rattle.judge.specs.Search.{pairMode, verdictOf, pairVerdict, listFirst, slotFirst, frameFirst, frameVerdict, searched}
 use Rattle.judge.specs.Judged.{judged}
 use Rattle.judge.specs.Judged.Inside.{judged-is}
 use Rattle.calls.specs.View.{World, Judging}
@@ -53,7 +53,7 @@ after w (e ∷ es) = let r = step w (e .domain) (e .call) in after (worldOf r) e
 
 -- THE SAME WITHOUT CHECK 3, and by any judging: this is computed. Unfolding it unfolds all that it computes with
 unfoldable pub answersBy : Judging → World → List Exchange → List (List ℕ)
-unfolding touched first below total estatePages pagesOf inSet covers liesIn apart covering based objectCovering objectBased placeBased placeAbove hasRoom placeOf ordinaryMode modeOf hasPassword insertSlot removeSlot lockSlot mergeList onlyList saveDomain restoreDomain newObject addPassword dropPassword insertObject removeObject live listEnd untilEnd clist listAt pairMode verdictOf pairVerdict listVerdict slotVerdict frameVerdict searched inRange unlocked early view runFree isEntry late checks frameFields registration changes zeroed uncheckedBy homeEstate homeDomain bootAccounts bootState homePair bootWords homesOk limitsOk setsOk homePages roomOk planOk boot
+unfolding touched first below total estatePages pagesOf inSet covers liesIn apart covering based objectCovering objectBased placeBased placeAbove hasRoom placeOf ordinaryMode modeOf hasPassword insertSlot removeSlot lockSlot mergeList onlyList saveDomain restoreDomain newObject addPassword dropPassword insertObject removeObject live listEnd untilEnd clist listAt pairMode verdictOf pairVerdict listFirst slotFirst frameFirst frameVerdict searched inRange unlocked early view runFree isEntry late checks frameFields registration changes zeroed uncheckedBy homeEstate homeDomain bootAccounts bootState homePair bootWords homesOk limitsOk setsOk homePages roomOk planOk boot
 answersBy judging w [] = []
 answersBy judging w (e ∷ es) = let r = uncheckedBy judging w (e .domain) (e .call) in answerOf r ∷ answersBy judging (worldOf r) es
 

@@ -1,4 +1,4 @@
--- When an access is granted, told by the pairs of the Clists: document 01, "How an access is judged", rules 2 to 4.
+-- When an access is granted, told by the pairs of the Clists: document 01, "How an access is judged", rules 2 to 4, and document 02, T-07.
 use Prim.Native.Nat.{ℕ, _<_}
 use mathlib.Core.Path.{_≡_}
 use mathlib.Core.Bool.{true, false}
@@ -12,7 +12,7 @@ use Rattle.state.specs.declared.Table.{Table}
 use Rattle.state.specs.declared.Frame.{Frame}
 use Rattle.clists.specs.Clist.{live}
 use Rattle.judge.specs.Search.{targeted}
-use Rattle.judge.specs.Pairs.{pairsAt, modeAt, addressAt, EachBefore, PassedOver}
+use Rattle.judge.specs.Pairs.{pairsAt, modeAt, addressAt, EachBefore, EachPair}
 use Rattle.judge.specs.declared.Target.{Target}
 
 -- The address is that of a pair in the Clist of a live slot.
@@ -25,36 +25,37 @@ pub record PairAt (t : Table) (words : List ℕ) (f : Frame) (a : ℕ) : Type 0 
   pub in-list : place < pairsAt t words f slot
   pub address : a ≡ addressAt f slot place
 
--- The pair at `a` grants the wanted rights on the object, and no pair before it denies them.
-pub record GrantsUndenied (t : Table) (words : List ℕ) (f : Frame) (o : Object) (wanted a : ℕ) : Type 0 where
+-- The pair at `a` grants the wanted rights on the object, and the mode of each pair before it has a property.
+pub record GrantsAt (t : Table) (words : List ℕ) (f : Frame) (o : Object) (wanted : ℕ) (Earlier : ℕ → Type 0) (a : ℕ) : Type 0 where
   pub in-clist : PairAt t words f a
   pub granting : grants (modeAt t words f o (in-clist .slot) (in-clist .place)) wanted ≡ true
-  pub undenied : EachBefore t words f o (λ mode. denies mode wanted ≡ false) (in-clist .slot) (in-clist .place)
+  pub before : EachBefore t words f o Earlier (in-clist .slot) (in-clist .place)
 
--- The object asked for stands, some right is wanted, and there is such a pair.
+-- It is the first pair that grants them.
+abbrev pub GrantsFirst : Table → List ℕ → Frame → Object → ℕ → ℕ → Type 0
+GrantsFirst t words f o wanted = GrantsAt t words f o wanted (λ mode. grants mode wanted ≡ false)
+
+-- The pair at `a` denies the wanted rights on the object.
+pub record DeniesAt (t : Table) (words : List ℕ) (f : Frame) (o : Object) (wanted a : ℕ) : Type 0 where
+  pub in-clist : PairAt t words f a
+  pub denying : denies (modeAt t words f o (in-clist .slot) (in-clist .place)) wanted ≡ true
+
+-- No pair of a live slot's Clist denies them, in whatever place.
+abbrev pub Undenied : Table → List ℕ → Frame → Object → ℕ → Type 0
+Undenied t words f o wanted = EachPair t words f o (λ mode. denies mode wanted ≡ false)
+
+-- The object asked for stands, some right is wanted, some pair grants, and no pair anywhere denies.
 pub record Grantable (t : Table) (words : List ℕ) (f : Frame) (target : Target) (wanted : ℕ) : Type 0 where
   pub stands : free (targeted t target) ≡ false
   pub some-right : eqb wanted 0 ≡ false
   pub address : ℕ
-  pub pair : GrantsUndenied t words f (targeted t target) wanted address
+  pub in-clist : PairAt t words f address
+  pub granting : grants (modeAt t words f (targeted t target) (in-clist .slot) (in-clist .place)) wanted ≡ true
+  pub undenied : Undenied t words f (targeted t target) wanted
 
--- The pair at `a` grants the wanted rights on the object, and each pair before it is passed over.
-pub record GrantsAt (t : Table) (words : List ℕ) (f : Frame) (o : Object) (wanted a : ℕ) : Type 0 where
-  pub in-clist : PairAt t words f a
-  pub granting : grants (modeAt t words f o (in-clist .slot) (in-clist .place)) wanted ≡ true
-  pub before : EachBefore t words f o (PassedOver wanted) (in-clist .slot) (in-clist .place)
-
--- The object asked for stands, some right is wanted, and the pair at `a` is the first to decide, and grants.
+-- The same, and the pair at `a` is the first that grants.
 pub record Allowed (t : Table) (words : List ℕ) (f : Frame) (target : Target) (wanted a : ℕ) : Type 0 where
   pub stands : free (targeted t target) ≡ false
   pub some-right : eqb wanted 0 ≡ false
-  pub pair : GrantsAt t words f (targeted t target) wanted a
-
--- Some pair denies, and no pair before it grants.
-pub record DeniesFirst (t : Table) (words : List ℕ) (f : Frame) (o : Object) (wanted : ℕ) : Type 0 where
-  pub slot : ℕ
-  pub place : ℕ
-  pub in-frame : slot < 8
-  pub in-list : place < pairsAt t words f slot
-  pub denying : denies (modeAt t words f o slot place) wanted ≡ true
-  pub ungranted : EachBefore t words f o (λ mode. grants mode wanted ≡ false) slot place
+  pub pair : GrantsFirst t words f (targeted t target) wanted a
+  pub undenied : Undenied t words f (targeted t target) wanted

@@ -1,7 +1,9 @@
--- The laws of the judgement. Deciding is about the search, and is not for the crates above.
+-- The laws of the judgement. First and Verdicts are about the search, and are not for the crates above.
 pub mod Pairs
-mod Deciding
+mod First
+mod Verdicts
 pub mod Exactly
+pub mod Changed
 pub mod Local
 pub mod Grant
 pub mod Behind

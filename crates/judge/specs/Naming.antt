@@ -7,10 +7,9 @@ use native.Mathlib.Omega.{arith}
 use lib.Dec.{eqb}
 use lib.ListN.{getD}
 use borrow.Author.Tests.{ne-eqb}
-use Rattle.bounded.specs.Search.{Skipped}
 use Rattle.rights.specs.Modes.{grants}
 use Rattle.state.specs.declared.Object.{Object}
-use Rattle.judge.specs.Search.{pairMode, verdictOf, pairVerdict, decides}
+use Rattle.judge.specs.Search.{pairMode, verdictOf, pairVerdict}
 use Rattle.clists.specs.Laws.Live.{grants-some}
 use Rattle.judge.specs.declared.Verdict.the-variants.{Passed}
 
@@ -31,9 +30,3 @@ pub other-passed : (list : List ℕ) (start : ℕ) (o : Object) (wanted i : ℕ)
     → pairVerdict list start o wanted i ≡ Passed
 unfolding pairVerdict pairMode verdictOf
 other-passed list start o wanted i h m = rw (m, no-grant wanted h)
-
--- so none of the pairs passed over decides
-pub none-decides : (list : List ℕ) (start : ℕ) (o : Object) (wanted : ℕ) {a b : ℕ} → 0 < wanted → Skipped (names list (o .base)) a b
-    → Skipped (λ i. decides (pairVerdict list start o wanted i)) a b
-none-decides list start o wanted h s =
-    record { upward = s .upward; fails = λ i l m. rw (other-passed list start o wanted i h (s .fails i l m)) }

@@ -1,4 +1,4 @@
--- How an access is judged: document 01, "How an access is judged", rules 2 to 4.
+-- How an access is judged: document 01, "How an access is judged", rules 2 to 4, and document 02, T-07.
 use Prim.Native.Nat.{ℕ, _+_, _*_, _/_}
 use mathlib.Core.Bool.{Bool, true, false, cond, _||_}
 use mathlib.Core.List.{List}
@@ -33,25 +33,35 @@ verdictOf mode wanted at = cond (grants mode wanted) (Granted at) (cond (denies 
 unfoldable pub pairVerdict : List ℕ → ℕ → Object → ℕ → ℕ → Verdict
 pairVerdict list start o wanted i = verdictOf (pairMode o (getD list (2 * i) 0) (getD list (2 * i + 1) 0)) wanted (start + 2 * i)
 
-abbrev pub decides : Verdict → Bool
-decides (Granted at) = true
-decides Denied = true
-decides Passed = false
+abbrev pub granting : Verdict → Bool
+granting (Granted at) = true
+granting Denied = false
+granting Passed = false
 
--- rules 2 and 4: within a Clist the first pair that decides, by place
-unfoldable pub listVerdict : List ℕ → ℕ → Object → ℕ → Verdict
-listVerdict list start o wanted =
-    first (λ i. decides (pairVerdict list start o wanted i)) (pairVerdict list start o wanted) Passed 0 (length list / 2)
+abbrev pub denying : Verdict → Bool
+denying (Granted at) = false
+denying Denied = true
+denying Passed = false
 
--- what slot k says; its Clist starts at the page that the slot names
-unfoldable pub slotVerdict : Table → List ℕ → Frame → Object → ℕ → ℕ → Verdict
-slotVerdict t words f o wanted k = listVerdict (listAt t words f k) (64 * slotAt f k .page) o wanted
+-- rule 2: within a Clist, by place, what the first pair says whose verdict passes a test; nothing where there is none
+unfoldable pub listFirst : (Verdict → Bool) → List ℕ → ℕ → Object → ℕ → Verdict
+listFirst test list start o wanted =
+    first (λ i. test (pairVerdict list start o wanted i)) (pairVerdict list start o wanted) Passed 0 (length list / 2)
 
--- rules 2 and 4: the first slot that decides
+-- the same of slot k; its Clist starts at the page that the slot names
+unfoldable pub slotFirst : (Verdict → Bool) → Table → List ℕ → Frame → Object → ℕ → ℕ → Verdict
+slotFirst test t words f o wanted k = listFirst test (listAt t words f k) (64 * slotAt f k .page) o wanted
+
+-- rule 2: the same of all slots, by slot and then by place
+unfoldable pub frameFirst : (Verdict → Bool) → Table → List ℕ → Frame → Object → ℕ → Verdict
+frameFirst test t words f o wanted = first (λ k. test (slotFirst test t words f o wanted k)) (slotFirst test t words f o wanted) Passed 0 8
+
+-- document 02, T-07, in place of rule 4's first sentence: denied where a pair in any place denies, else granted by the first granting pair
 unfoldable pub frameVerdict : Table → List ℕ → Frame → Object → ℕ → Verdict
-frameVerdict t words f o wanted = first (λ k. decides (slotVerdict t words f o wanted k)) (slotVerdict t words f o wanted) Passed 0 8
+frameVerdict t words f o wanted =
+    cond (denying (frameFirst denying t words f o wanted)) Denied (frameFirst granting t words f o wanted)
 
--- rule 4: a denial, and no deciding pair, are refused alike
+-- rule 4: a denial, and no granting pair, are refused alike
 abbrev pub judgementOf : Verdict → Judgement
 judgementOf (Granted at) = Judgement.Granted at
 judgementOf Denied = Refused

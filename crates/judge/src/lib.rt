@@ -1,6 +1,7 @@
 // How an access is judged.
-use crate::pairs::decides;
+use crate::pairs::denies;
 use crate::pairs::list_verdict;
+use crate::pairs::or_else;
 use clists::clist;
 use clists::opened;
 use rights::Rights;
@@ -17,7 +18,8 @@ ghost use Prim.Native.Nat.{_*_, _<_};
 ghost use lib.Dec.{eqb};
 ghost use Rattle.state.specs.Extent.{free};
 ghost use Rattle.clists.specs.Clist.{named, live, clist};
-ghost use Rattle.judge.specs.Search.{listVerdict, frameVerdict, judgementOf};
+ghost use Rattle.judge.specs.Search.{frameVerdict, judgementOf};
+ghost use Rattle.judge.specs.Walk.{listVerdict};
 ghost use Rattle.judge.specs.Judged.{judged};
 ghost use Rattle.judge.specs.declared.Judgement.the-variants.{Refused};
 
@@ -42,7 +44,7 @@ pub enum Judgement {
     Refused,
 }
 
-// The first deciding pair of the Clist that a capability opens, where it is live.
+// What the Clist says that a capability opens, where it is live.
 fn slot_verdict(t: Table, store: &[u64], c: Capability, o: Object, wanted: Rights) -> Verdict
     requires { ⌜ 0 < wanted .bits ⌝ }
     ensures { λ r. ⌜ r ≡ listVerdict (cond (live t c) (clist (now (store .entry)) (named t c)) []) (64 * c .page) o (wanted .bits) ⌝ }
@@ -55,24 +57,26 @@ fn slot_verdict(t: Table, store: &[u64], c: Capability, o: Object, wanted: Right
     )
 }
 
-// The first deciding pair of the frame's live slots, by slot and then by place.
+// What the frame's live slots say, by slot and then by place: the walk goes on behind a grant, since a later pair may deny.
 fn frame_verdict(t: Table, store: &[u64], f: Frame, o: Object, wanted: Rights) -> Verdict
     requires { ⌜ 0 < wanted .bits ⌝ }
     ensures { λ r. ⌜ r ≡ frameVerdict t (now (store .entry)) f o (wanted .bits) ⌝ }
 {
     let count = f.count as usize;
+    let mut found = Verdict::Passed;
     let mut k = 0;
     while k < 8 {
         if count <= k {
-            return Verdict::Passed;
+            return found;
         }
         let v = slot_verdict(t, store, f.slots[k], o, wanted);
-        if decides(v) {
+        if denies(v) {
             return v;
         }
+        found = or_else(found, v);
         k += 1;
     }
-    Verdict::Passed
+    found
 }
 
 // A verdict as a judgement: only a grant is one.

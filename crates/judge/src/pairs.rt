@@ -9,8 +9,9 @@ ghost use Prim.Native.Nat.{_+_, _*_, _<_, _≤_};
 ghost use lib.ListN.{length, getD};
 ghost use Rattle.bounded.specs.Search.{Skipped};
 ghost use Rattle.state.specs.Lookup.{modeOf};
-ghost use Rattle.judge.specs.Search.{verdictOf, pairVerdict, decides, listVerdict};
+ghost use Rattle.judge.specs.Search.{verdictOf, pairVerdict, denying};
 ghost use Rattle.judge.specs.Naming.{names};
+ghost use Rattle.judge.specs.Walk.{listVerdict, orElse};
 
 // What a true pair of this mode says.
 fn verdict_of(mode: Rights, wanted: Rights, at: u64) -> Verdict
@@ -25,14 +26,25 @@ fn verdict_of(mode: Rights, wanted: Rights, at: u64) -> Verdict
     Verdict::Passed
 }
 
-// Whether a verdict decides.
-pub fn decides(v: Verdict) -> bool
-    ensures { λ r. ⌜ r ≡ decides v ⌝ }
+// Whether a verdict denies.
+pub fn denies(v: Verdict) -> bool
+    ensures { λ r. ⌜ r ≡ denying v ⌝ }
 {
     match v {
-        Verdict::Granted(_) => true,
+        Verdict::Granted(_) => false,
         Verdict::Denied => true,
         Verdict::Passed => false,
+    }
+}
+
+// What was found, or the next verdict where nothing was.
+pub fn or_else(found: Verdict, v: Verdict) -> Verdict
+    ensures { λ r. ⌜ r ≡ orElse found v ⌝ }
+{
+    match found {
+        Verdict::Granted(at) => return Verdict::Granted(at),
+        Verdict::Denied => return Verdict::Denied,
+        Verdict::Passed => return v,
     }
 }
 
@@ -87,20 +99,23 @@ fn next_pair(list: &[u64], pairs: usize, from: usize, base: u64) -> usize
     i
 }
 
-// The first deciding pair of a Clist. Only a pair that names the object says anything.
+// What a Clist says: the walk remembers the first granting pair and stops at the first denying one. Only a pair that names the object says
+// anything.
 pub fn list_verdict(list: &[u64], start: u64, o: Object, wanted: Rights) -> Verdict
     requires { ⌜ (start < 65536) × (0 < wanted .bits) ⌝ }
     ensures { λ r. ⌜ r ≡ listVerdict (now (list .entry)) start o (wanted .bits) ⌝ }
 {
     let pairs = list.len() / 2;
     let base = o.base as u64;
+    let mut found = Verdict::Passed;
     let mut i = next_pair(list, pairs, 0, base);
     while i < pairs {
         let v = pair_verdict(list, start, o, wanted, i);
-        if decides(v) {
+        if denies(v) {
             return v;
         }
+        found = or_else(found, v);
         i = next_pair(list, pairs, i + 1, base);
     }
-    Verdict::Passed
+    found
 }

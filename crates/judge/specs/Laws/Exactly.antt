@@ -1,138 +1,123 @@
--- Exactly when an access is granted, and when it is refused: document 01, "How an access is judged", rules 2 to 4.
+-- Exactly when an access is granted, and when it is refused: document 01, "How an access is judged", rules 2 to 4, and document 02, T-07.
 use Prim.Native.Nat.{ℕ, _<_}
 use mathlib.Core.Path.{_≡_, refl, ap, sym, _∙_}
-use mathlib.Core.Bool.{Bool, true, false, cond, _||_, true≢false}
+use mathlib.Core.Bool.{Bool, true, false, cond, true≢false}
 use mathlib.Core.List.{List}
 use mathlib.Core.Logic.{_↔_, _⊎_, inl, inr, ⊎-elim}
 use native.Mathlib.Omega.{arith}
 use lib.Dec.{eqb}
 use Rattle.rights.specs.Modes.{grants, denies}
-use Rattle.rights.specs.Laws.{never-both}
 use Rattle.state.specs.Extent.{free}
 use Rattle.state.specs.declared.Object.{Object}
 use Rattle.state.specs.declared.Table.{Table}
 use Rattle.state.specs.declared.Frame.{Frame}
-use Rattle.judge.specs.Search.{pairVerdict, decides, frameVerdict, judgementOf, targeted}
+use Rattle.judge.specs.Search.{pairVerdict, granting, denying, frameFirst, frameVerdict, judgementOf, targeted}
 use Rattle.judge.specs.Judged.{judged}
-use Rattle.judge.specs.Pairs.{pairsAt, modeAt, addressAt, Before, NotAfter, EachPair}
-use Rattle.judge.specs.Granting.{PairAt, GrantsUndenied, Grantable, GrantsAt, Allowed, DeniesFirst}
-use Rattle.judge.specs.Laws.Pairs.{order}
-use Rattle.clists.specs.Laws.Lists.{list-alive}
-use Rattle.judge.specs.Laws.Deciding.{says, Decides, frame-cases, frame-at, frame-none, verdict-granted, granted-verdict, verdict-passed, passed-verdict, verdict-undenied, grant-verdict, judged-by}
+use Rattle.judge.specs.Pairs.{pairsAt, modeAt, addressAt, EachPair}
+use Rattle.judge.specs.Granting.{GrantsFirst, DeniesAt, Undenied, Grantable, Allowed}
+use Rattle.judge.specs.Laws.First.{FirstPasses, frame-cases, frame-none}
+use Rattle.judge.specs.Laws.Verdicts.{granting-is, denying-is, pair-at, first-exactly, tested, judged-by}
 use Rattle.judge.specs.declared.Target.{Target}
 use Rattle.judge.specs.declared.Verdict.{Verdict}
 use Rattle.judge.specs.declared.Judgement.{Judgement}
 use Rattle.judge.specs.declared.Judgement.the-variants.{Granted, Refused}
 
 module _ (t : Table) (words : List ℕ) (f : Frame) (o : Object) (wanted : ℕ) where
-  grants-decides : (a : ℕ) → GrantsAt t words f o wanted a → Decides t words f o wanted (Verdict.Granted a)
-  unfolding pairVerdict
-  grants-decides a g =
-      let p = g .in-clist in
-      let e = granted-verdict (modeAt t words f o (p .slot) (p .place)) wanted (addressAt f (p .slot) (p .place)) (g .granting) in
-      record {
-        slot = p .slot;
-        place = p .place;
-        in-frame = p .in-frame;
-        in-list = p .in-list;
-        there = e ∙ ap Verdict.Granted (sym (p .address));
-        deciding = ap decides e;
-        before = λ i j b l. passed-verdict _ wanted _ (g .before i j b l);
-      }
+  -- the first granting pair
+  granted-first : (a : ℕ) → frameFirst granting t words f o wanted ≡ Verdict.Granted a ↔ GrantsFirst t words f o wanted a
+  granted-first =
+      first-exactly granting refl (λ a. refl) t words f o wanted _ (λ mode at. (λ h. sym (granting-is mode wanted at) ∙ h, λ h. granting-is mode wanted at ∙ h))
 
-  decides-grants : {v : Verdict} (a : ℕ) (d : Decides t words f o wanted v) → a ≡ addressAt f (d .slot) (d .place)
-      → grants (modeAt t words f o (d .slot) (d .place)) wanted ≡ true → GrantsAt t words f o wanted a
+  -- some pair denies, or none does
+  pub denied-or-not : ((a : ℕ) × DeniesAt t words f o wanted a) ⊎ Undenied t words f o wanted
   unfolding pairVerdict
-  decides-grants a d e h =
-      let alive = list-alive t words f (d .slot) (omega arith) in
-      record {
-        in-clist = record {
-          slot = d .slot;
-          place = d .place;
-          in-frame = d .in-frame;
-          in-use = alive .0;
-          alive = alive .1;
-          in-list = d .in-list;
-          address = e;
-        };
-        granting = h;
-        before = λ i j b l. verdict-passed _ wanted _ (d .before i j b l);
-      }
+  denied-or-not =
+      ⊎-elim (λ d. inl (addressAt f (d .slot) (d .place), denies-at d)) (λ n. inr (λ i j k l. sym (denying-is _ wanted _) ∙ n i j k l))
+      (frame-cases denying refl t words f o wanted)
+    where
+      denies-at : {v : Verdict} (d : FirstPasses denying t words f o wanted v) → DeniesAt t words f o wanted (addressAt f (d .slot) (d .place))
+      denies-at d =
+          record {
+            in-clist = pair-at t words f (d .slot) (d .place) (d .in-frame) (d .in-list) _ refl;
+            denying = sym (denying-is _ wanted _) ∙ d .passing;
+          }
 
-  verdict-exactly : (a : ℕ) → frameVerdict t words f o wanted ≡ Verdict.Granted a ↔ GrantsAt t words f o wanted a
+  undenied-exactly : denying (frameFirst denying t words f o wanted) ≡ false ↔ Undenied t words f o wanted
   unfolding pairVerdict
+  undenied-exactly = (
+    λ h. ⊎-elim (λ d. absurd (true≢false (sym (d .passing) ∙ ap denying (d .there) ∙ h))) (λ n i j k l. sym (denying-is _ wanted _) ∙ n i j k l)
+        (frame-cases denying refl t words f o wanted),
+    λ u. ap denying (frame-none denying refl t words f o wanted (λ i j k l. denying-is _ wanted _ ∙ u i j k l)),
+  )
+
+  verdict-exactly : (a : ℕ) → frameVerdict t words f o wanted ≡ Verdict.Granted a ↔ (GrantsFirst t words f o wanted a × Undenied t words f o wanted)
+  unfolding frameVerdict
   verdict-exactly a = (
-    λ h. ⊎-elim (λ d. by d h) (λ n. absurd (true≢false (ap decides (sym h ∙ frame-none t words f o wanted n)))) (frame-cases t words f o wanted),
-    λ g. frame-at t words f o wanted _ (grants-decides a g),
+    go (denying (frameFirst denying t words f o wanted)) refl,
+    λ g. rw (undenied-exactly .1 (g .1)) (granted-first a .1 (g .0)),
   )
     where
-      by : {v : Verdict} → Decides t words f o wanted v → v ≡ Verdict.Granted a → GrantsAt t words f o wanted a
-      by d h = let v = verdict-granted (modeAt t words f o (d .slot) (d .place)) wanted _ a (d .there ∙ h) in decides-grants a d (v .0) (v .1)
+      go : (b : Bool) → denying (frameFirst denying t words f o wanted) ≡ b
+          → cond b Verdict.Denied (frameFirst granting t words f o wanted) ≡ Verdict.Granted a → GrantsFirst t words f o wanted a × Undenied t words f o wanted
+      go true e h = let z : _≡_ {A = ℕ} 0 1 = cc in absurd (omega arith)
+      go false e h = (granted-first a .0 h, undenied-exactly .0 e)
 
-  -- where some pair grants, and no pair before it denies, the first pair to decide grants: it is that pair or one before it
-  undenied-first : (at : ℕ) → GrantsUndenied t words f o wanted at → (a : ℕ) × GrantsAt t words f o wanted a
+  -- where some pair grants, one of them is the first
+  some-first : (slot place : ℕ) → slot < 8 → place < pairsAt t words f slot → grants (modeAt t words f o slot place) wanted ≡ true
+      → (a : ℕ) × GrantsFirst t words f o wanted a
   unfolding pairVerdict
-  undenied-first at u =
-      ⊎-elim (λ d. by d (no-later d)) (λ n. absurd (true≢false (sym itself ∙ n (p .slot) (p .place) (p .in-frame) (p .in-list)))) (frame-cases t words f o wanted)
+  some-first slot place k l h =
+      ⊎-elim (λ d. first d) (λ n. absurd (true≢false (sym h ∙ sym (granting-is _ wanted _) ∙ n slot place k l))) (frame-cases granting refl t words f o wanted)
     where
-      p : PairAt t words f at
-      p = u .in-clist
-
-      itself : decides (says t words f o wanted (p .slot) (p .place)) ≡ true
-      itself = ap decides (granted-verdict (modeAt t words f o (p .slot) (p .place)) wanted (addressAt f (p .slot) (p .place)) (u .granting))
-
-      no-later : (d : Decides t words f o wanted (frameVerdict t words f o wanted)) → NotAfter (d .slot) (d .place) (p .slot) (p .place)
-      no-later d =
-          ⊎-elim (λ n. n) (λ b. absurd (true≢false (sym itself ∙ d .before (p .slot) (p .place) b (p .in-list)))) (order (d .slot) (d .place) (p .slot) (p .place))
-
-      undenied : (i j : ℕ) → j < pairsAt t words f i → NotAfter i j (p .slot) (p .place) → denies (modeAt t words f o i j) wanted ≡ false
-      undenied i j l (inl b) = u .undenied i j b l
-      undenied i j l (inr e) = never-both (modeAt t words f o i j) wanted (rw (e .0, e .1) (u .granting))
-
-      by : (d : Decides t words f o wanted (frameVerdict t words f o wanted)) → NotAfter (d .slot) (d .place) (p .slot) (p .place)
-          → (a : ℕ) × GrantsAt t words f o wanted a
-      by d n =
-          let a = addressAt f (d .slot) (d .place) in
-          let h = verdict-undenied (modeAt t words f o (d .slot) (d .place)) wanted a (d .deciding) (undenied (d .slot) (d .place) (d .in-list) n) in
-          (a, decides-grants a d refl h)
+      first : {v : Verdict} (d : FirstPasses granting t words f o wanted v) → (a : ℕ) × GrantsFirst t words f o wanted a
+      first d = (
+        addressAt f (d .slot) (d .place),
+        record {
+          in-clist = pair-at t words f (d .slot) (d .place) (d .in-frame) (d .in-list) _ refl;
+          granting = sym (granting-is _ wanted _) ∙ d .passing;
+          before = λ i j b m. sym (granting-is _ wanted _) ∙ d .before i j b m;
+        },
+      )
 
 module _ (t : Table) (words : List ℕ) (f : Frame) (target : Target) (wanted : ℕ) where
-  -- BY WHICH PAIR: the judgement grants by the pair at `a` exactly where that pair is the first to decide, and grants.
+  -- BY WHICH PAIR: the judgement grants by the pair at `a` exactly where that pair is the first that grants, and no pair anywhere denies.
   pub granted-exactly : (a : ℕ) → judged t words f target wanted ≡ Granted a ↔ Allowed t words f target wanted a
   granted-exactly a = (
-    λ h. allowed (free (targeted t target)) (eqb wanted 0) refl refl (sym (judged-by t words f target wanted) ∙ h),
+    λ h. allowed (tested (free (targeted t target)) (eqb wanted 0) _ a (sym (judged-by t words f target wanted) ∙ h)),
     λ x.
         judged-by t words f target wanted
-        ∙ rw (x .stands, x .some-right) (ap judgementOf (verdict-exactly t words f (targeted t target) wanted a .1 (x .pair))),
+        ∙ rw (x .stands, x .some-right) (ap judgementOf (verdict-exactly t words f (targeted t target) wanted a .1 (x .pair, x .undenied))),
   )
     where
-      allowed : (x y : Bool) → free (targeted t target) ≡ x → eqb wanted 0 ≡ y
-          → cond (x || y) Refused (judgementOf (frameVerdict t words f (targeted t target) wanted)) ≡ Granted a → Allowed t words f target wanted a
-      allowed true y p q e = let z : _≡_ {A = ℕ} 0 1 = cc in absurd (omega arith)
-      allowed false true p q e = let z : _≡_ {A = ℕ} 0 1 = cc in absurd (omega arith)
-      allowed false false p q e =
-          record { stands = p; some-right = q; pair = verdict-exactly t words f (targeted t target) wanted a .0 (grant-verdict _ a e) }
+      allowed : ((free (targeted t target) ≡ false) × (eqb wanted 0 ≡ false)) × (frameVerdict t words f (targeted t target) wanted ≡ Verdict.Granted a)
+          → Allowed t words f target wanted a
+      allowed h =
+          let v = verdict-exactly t words f (targeted t target) wanted a .0 (h .1) in
+          record { stands = h .0 .0; some-right = h .0 .1; pair = v .0; undenied = v .1 }
 
-  -- DEMAND 2: access is granted exactly where a pair with all the wanted rights stands in a live list with no denying pair before it.
+  -- DEMAND 2, as T-07 has it: access is granted exactly where some granting pair stands in a live list, and no denying pair anywhere.
   pub granted-when : ((a : ℕ) × (judged t words f target wanted ≡ Granted a)) ↔ Grantable t words f target wanted
   granted-when = (λ g. grantable (g .0) (granted-exactly (g .0) .0 (g .1)), granted)
     where
       grantable : (a : ℕ) → Allowed t words f target wanted a → Grantable t words f target wanted
       grantable a x =
-          let g = x .pair in
+          let p = x .pair in
           record {
             stands = x .stands;
             some-right = x .some-right;
             address = a;
-            pair = record { in-clist = g .in-clist; granting = g .granting; undenied = λ i j b l. g .before i j b l .no-denial };
+            in-clist = p .in-clist;
+            granting = p .granting;
+            undenied = x .undenied;
           }
 
       granted : Grantable t words f target wanted → (a : ℕ) × (judged t words f target wanted ≡ Granted a)
       granted x =
-          let g = undenied-first t words f (targeted t target) wanted (x .address) (x .pair) in
-          (g .0, granted-exactly (g .0) .1 (record { stands = x .stands; some-right = x .some-right; pair = g .1 }))
+          let p = x .in-clist in
+          let g = some-first t words f (targeted t target) wanted (p .slot) (p .place) (p .in-frame) (p .in-list) (x .granting) in
+          (g .0, granted-exactly (g .0) .1 (record { stands = x .stands; some-right = x .some-right; pair = g .1; undenied = x .undenied }))
 
-  -- It is refused exactly where there is none.
+  -- It is refused exactly where that is not so.
   pub refused-when : judged t words f target wanted ≡ Refused ↔ (Grantable t words f target wanted → ⊥)
   refused-when = (
     λ h x. let (a, e) = granted-when .1 x in let z : _≡_ {A = ℕ} 0 1 = cc in omega arith,
@@ -144,18 +129,13 @@ module _ (t : Table) (words : List ℕ) (f : Frame) (target : Target) (wanted : 
       refused (Granted a) e h = absurd (h (granted-when .0 (a, e)))
       refused Refused e h = e
 
-  -- Where some pair denies, and no pair before it grants, the judgement refuses.
-  pub denied-refused : DeniesFirst t words f (targeted t target) wanted → judged t words f target wanted ≡ Refused
-  denied-refused d = refused-when .1 (λ x. let p = x .pair .in-clist in clash (x .pair) (order (p .slot) (p .place) (d .slot) (d .place)))
-    where
-      clash : {a : ℕ} (g : GrantsUndenied t words f (targeted t target) wanted a)
-          → NotAfter (g .in-clist .slot) (g .in-clist .place) (d .slot) (d .place) ⊎ Before (d .slot) (d .place) (g .in-clist .slot) (g .in-clist .place) → ⊥
-      clash g (inl (inl b)) = true≢false (sym (g .granting) ∙ d .ungranted _ _ b (g .in-clist .in-list))
-      clash g (inl (inr e)) =
-          true≢false (sym (d .denying) ∙ never-both (modeAt t words f (targeted t target) (d .slot) (d .place)) wanted (rw (e .0, e .1) at (g .granting)))
-      clash g (inr b) = true≢false (sym (d .denying) ∙ g .undenied (d .slot) (d .place) b (d .in-list))
+  -- A DENYING PAIR WINS FROM ANY PLACE: where one stands in a live list, the judgement refuses.
+  pub denied-refused : (a : ℕ) → DeniesAt t words f (targeted t target) wanted a → judged t words f target wanted ≡ Refused
+  denied-refused a d =
+      let p = d .in-clist in
+      refused-when .1 (λ x. true≢false (sym (d .denying) ∙ x .undenied (p .slot) (p .place) (p .in-frame) (p .in-list)))
 
   -- Where no pair grants, the judgement refuses.
   pub ungranted-refused : EachPair t words f (targeted t target) (λ mode. grants mode wanted ≡ false) → judged t words f target wanted ≡ Refused
   ungranted-refused h =
-      refused-when .1 (λ x. let p = x .pair .in-clist in true≢false (sym (x .pair .granting) ∙ h (p .slot) (p .place) (p .in-frame) (p .in-list)))
+      refused-when .1 (λ x. let p = x .in-clist in true≢false (sym (x .granting) ∙ h (p .slot) (p .place) (p .in-frame) (p .in-list)))
