@@ -4,5 +4,5 @@ pub mod Nested
 pub mod Locks
 pub mod WholeLock
 pub mod Ends
-pub mod Bans
+pub mod Denials
 pub mod Accounts

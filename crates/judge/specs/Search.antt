@@ -56,7 +56,8 @@ slotFirst test t words f o wanted k = listFirst test (listAt t words f k) (64 * 
 unfoldable pub frameFirst : (Verdict → Bool) → Table → List ℕ → Frame → Object → ℕ → Verdict
 frameFirst test t words f o wanted = first (λ k. test (slotFirst test t words f o wanted k)) (slotFirst test t words f o wanted) Passed 0 8
 
--- document 02, T-07, in place of rule 4's first sentence: denied where a pair in any place denies, else granted by the first granting pair
+-- document 02, T-07, in place of rule 4's first sentence: denied where a pair in any place denies (the paper's ban), else granted by the
+-- first granting pair
 unfoldable pub frameVerdict : Table → List ℕ → Frame → Object → ℕ → Verdict
 frameVerdict t words f o wanted =
     cond (denying (frameFirst denying t words f o wanted)) Denied (frameFirst granting t words f o wanted)

@@ -42,13 +42,13 @@ pub record FormerlyAllowed (t : Table) (words : List ℕ) (f : Frame) (target : 
   pub pair : GrantsAt t words f (targeted t target) wanted (PassedOver wanted) a
 
 -- The former search grants by the first granting pair, and a denying pair stands behind it in a live list.
-pub record BannedBehind (t : Table) (words : List ℕ) (f : Frame) (target : Target) (wanted : ℕ) : Type 0 where
+pub record DeniedBehind (t : Table) (words : List ℕ) (f : Frame) (target : Target) (wanted : ℕ) : Type 0 where
   pub address : ℕ
   pub granted : formerlySearched t words f target wanted ≡ Granted address
   pub pair : GrantsFirst t words f (targeted t target) wanted address
-  pub ban-address : ℕ
-  pub ban : DeniesAt t words f (targeted t target) wanted ban-address
-  pub behind : Before (pair .in-clist .slot) (pair .in-clist .place) (ban .in-clist .slot) (ban .in-clist .place)
+  pub denial-address : ℕ
+  pub denial : DeniesAt t words f (targeted t target) wanted denial-address
+  pub behind : Before (pair .in-clist .slot) (pair .in-clist .place) (denial .in-clist .slot) (denial .in-clist .place)
 
 before-frame : (i j slot place : ℕ) → Before i j slot place → slot < 8 → i < 8
 before-frame i j slot place (inl b) l = omega arith
@@ -82,9 +82,9 @@ module _ (t : Table) (words : List ℕ) (f : Frame) (target : Target) (wanted : 
       })
 
   -- what was granted and is not has a denying pair behind the first granting one
-  banned : (a : ℕ) → formerlySearched t words f target wanted ≡ Granted a → judged t words f target wanted ≡ Refused
-      → BannedBehind t words f target wanted
-  banned a h r = ⊎-elim (λ d. by (d .1) (order _ _ (p .slot) (p .place))) (λ u. absurd (clash (granted u))) (denied-or-not t words f (targeted t target) wanted)
+  denied-behind : (a : ℕ) → formerlySearched t words f target wanted ≡ Granted a → judged t words f target wanted ≡ Refused
+      → DeniedBehind t words f target wanted
+  denied-behind a h r = ⊎-elim (λ d. by (d .1) (order _ _ (p .slot) (p .place))) (λ u. absurd (clash (granted u))) (denied-or-not t words f (targeted t target) wanted)
     where
       x : FormerlyAllowed t words f target wanted a
       x = formerly-exactly a .0 h
@@ -103,34 +103,34 @@ module _ (t : Table) (words : List ℕ) (f : Frame) (target : Target) (wanted : 
 
       by : {b : ℕ} (d : DeniesAt t words f (targeted t target) wanted b)
           → NotAfter (d .in-clist .slot) (d .in-clist .place) (p .slot) (p .place) ⊎ Before (p .slot) (p .place) (d .in-clist .slot) (d .in-clist .place)
-          → BannedBehind t words f target wanted
+          → DeniedBehind t words f target wanted
       by d (inl (inl z)) = absurd (true≢false (sym (d .denying) ∙ x .pair .before _ _ z (d .in-clist .in-list) .no-denial))
       by d (inl (inr e)) =
           absurd
           (true≢false (sym (d .denying) ∙ never-both (modeAt t words f (targeted t target) _ _) wanted (rw (e .0, e .1) (x .pair .granting))))
-      by {b} d (inr z) = record { address = a; granted = h; pair = first; ban-address = b; ban = d; behind = z }
+      by {b} d (inr z) = record { address = a; granted = h; pair = first; denial-address = b; denial = d; behind = z }
 
   -- A search that T-07 changed is now refused.
-  pub changed-refused : BannedBehind t words f target wanted → judged t words f target wanted ≡ Refused
-  changed-refused b = denied-refused t words f target wanted (b .ban-address) (b .ban)
+  pub changed-refused : DeniedBehind t words f target wanted → judged t words f target wanted ≡ Refused
+  changed-refused b = denied-refused t words f target wanted (b .denial-address) (b .denial)
 
-  changed-or-not : BannedBehind t words f target wanted ⊎ (judged t words f target wanted ≡ formerlySearched t words f target wanted)
+  changed-or-not : DeniedBehind t words f target wanted ⊎ (judged t words f target wanted ≡ formerlySearched t words f target wanted)
   changed-or-not = go _ _ refl refl
     where
       go : (j k : Judgement) → judged t words f target wanted ≡ j → formerlySearched t words f target wanted ≡ k
-          → BannedBehind t words f target wanted ⊎ (judged t words f target wanted ≡ formerlySearched t words f target wanted)
+          → DeniedBehind t words f target wanted ⊎ (judged t words f target wanted ≡ formerlySearched t words f target wanted)
       go (Granted a) k e g = inr (e ∙ sym (kept a e))
-      go Refused (Granted a) e g = inl (banned a g e)
+      go Refused (Granted a) e g = inl (denied-behind a g e)
       go Refused Refused e g = inr (e ∙ sym g)
 
   -- WHAT T-07 CHANGES: the searches that now give something else are exactly those that were granted where a denying pair stands behind
   -- the first granting one.
-  pub changed-exactly : (judged t words f target wanted ≡ formerlySearched t words f target wanted → ⊥) ↔ BannedBehind t words f target wanted
+  pub changed-exactly : (judged t words f target wanted ≡ formerlySearched t words f target wanted → ⊥) ↔ DeniedBehind t words f target wanted
   changed-exactly = (λ h. ⊎-elim (λ b. b) (λ s. absurd (h s)) changed-or-not, λ b s. clash b (sym (b .granted) ∙ sym s ∙ changed-refused b))
     where
-      clash : (b : BannedBehind t words f target wanted) → Granted (b .address) ≡ Refused → ⊥
+      clash : (b : DeniedBehind t words f target wanted) → Granted (b .address) ≡ Refused → ⊥
       clash b e = let z : _≡_ {A = ℕ} 0 1 = cc in omega arith
 
   -- Every other search gives what it gave.
-  pub others-same : (BannedBehind t words f target wanted → ⊥) → judged t words f target wanted ≡ formerlySearched t words f target wanted
+  pub others-same : (DeniedBehind t words f target wanted → ⊥) → judged t words f target wanted ≡ formerlySearched t words f target wanted
   others-same h = ⊎-elim (λ b. absurd (h b)) (λ s. s) changed-or-not

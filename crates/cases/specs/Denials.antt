@@ -27,8 +27,8 @@ laterSlot =
     ∷ by 0 (OnStore (Lookup 64 1)) (0 ∷ 2 ∷ [])
     ∷ []
 
-abbrev pub banRuns : List (List Exchange)
-banRuns =
+abbrev pub denialRuns : List (List Exchange)
+denialRuns =
     -- behind the granting pair in a later slot, until the slot is removed
     (laterSlot ++ by 0 (OnDomain (Remove 1)) (0 ∷ 0 ∷ []) ∷ by 0 (OnStore (Write 64 5)) (0 ∷ 0 ∷ []) ∷ [])
     -- until the slot's password is dropped, so that the slot is dead
@@ -49,9 +49,9 @@ banRuns =
     ∷ [])
     ∷ []
 
-computed : computedAfter searched banRuns ≡ expectedAfter banRuns
+computed : computedAfter searched denialRuns ≡ expectedAfter denialRuns
 unfolding answersBy
 computed = refl
 
-pub bans : answersAfter banRuns ≡ expectedAfter banRuns
-bans = by-computing banRuns computed
+pub denials : answersAfter denialRuns ≡ expectedAfter denialRuns
+denials = by-computing denialRuns computed
