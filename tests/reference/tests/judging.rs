@@ -33,9 +33,10 @@ fn verdict_of(mode: u64, wanted: u64) -> Option<bool> {
     }
 }
 
-/// Rules 1 to 4 once more, as a list of all pairs and their verdicts. A Clist
-/// ends before a pair of zeros.
-fn verdict(monitor: &Monitor, domain: usize, object: &Object, wanted: u64) -> Option<u64> {
+/// Rules 1 to 3 once more, as a list of the verdicts of all pairs in searching
+/// order: the pair that grants, or `None` for one that denies. A Clist ends
+/// before a pair of zeros.
+fn verdicts(monitor: &Monitor, domain: usize, object: &Object, wanted: u64) -> Vec<Option<u64>> {
     let mut verdicts = Vec::new();
     for slot in &monitor.domains[domain].now.slots {
         for list in monitor.objects.iter().filter(|o| live(o, slot)) {
@@ -54,9 +55,10 @@ fn verdict(monitor: &Monitor, domain: usize, object: &Object, wanted: u64) -> Op
             }
         }
     }
-    verdicts.first().copied().flatten()
+    verdicts
 }
 
+/// The first pair that grants, if none denies.
 #[test]
 fn judging_agrees_with_a_list_of_verdicts() {
     let mut random = Random::new(5);
@@ -66,13 +68,40 @@ fn judging_agrees_with_a_list_of_verdicts() {
             drop(monitor.call(domain, &call));
             for object in &monitor.objects {
                 let (d, wanted) = (random.index(4), 1 + random.below(31));
+                let verdicts = verdicts(&monitor, d, object, wanted);
+                let grants: Option<Vec<u64>> = verdicts.into_iter().collect();
                 assert_eq!(
                     monitor.granting_pair(d, object, wanted),
-                    verdict(&monitor, d, object, wanted)
+                    grants.and_then(|grants| grants.first().copied())
                 );
             }
         }
     }
+}
+
+/// A search ends as it did when the first verdict decided, but for those that
+/// were granted with a ban behind: these are refused.
+#[test]
+fn a_ban_behind_is_all_that_changed() {
+    let mut random = Random::new(7);
+    let (mut alike, mut changed) = (0, 0);
+    for seed in 600..604 {
+        let mut monitor = Monitor::new();
+        for (domain, call) in calls(&inputs::input(seed, 4_000)) {
+            drop(monitor.call(domain, &call));
+            for object in &monitor.objects {
+                let (d, wanted) = (random.index(4), random.pick(&[1, 1, 2, 4, 8, 15, 16]));
+                let verdicts = verdicts(&monitor, d, object, wanted);
+                let first = verdicts.first().copied().flatten();
+                let banned = verdicts.contains(&None);
+                let pair = monitor.granting_pair(d, object, wanted);
+                assert_eq!(pair, first.filter(|_| !banned));
+                alike += usize::from(pair.is_some());
+                changed += usize::from(first.is_some() && banned);
+            }
+        }
+    }
+    assert!(alike > 10_000 && changed > 500, "{alike}, {changed}");
 }
 
 /// The state with other words behind every object's first zero pair.

@@ -42,7 +42,9 @@ pub(super) const ENDS: &[Written] = &[
             // In slot 0 a pair that owns page 1, then one that denies R on it.
             ("0,WR,4,256", "0,0"),
             ("0,WR,5,22", "0,0"),
-            ("0,LK,64,1", "0,2"),
+            ("0,LK,64,1", "7,0"),
+            ("0,LK,64,2", "0,2"),
+            // One zero word is no end.
             ("0,WR,2,0", "0,0"),
             ("0,LK,64,1", "7,0"),
             ("0,LK,64,2", "0,128"),

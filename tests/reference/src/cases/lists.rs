@@ -4,7 +4,7 @@ use super::Case;
 use crate::lines::BOOT;
 
 pub(super) fn lists() -> Vec<Case> {
-    vec![full_page(), second_page()]
+    vec![full_page(), second_page(), last_ban(), ban_beyond()]
 }
 
 /// A case's lines, each with its answer and value.
@@ -112,6 +112,63 @@ fn second_page() -> Case {
             ("0,WR,190,18446744073709551615", "0,0"),
             ("0,RD,190", "0,18446744073709551615"),
             ("0,EX,190", "0,190"),
+        ],
+    );
+    case
+}
+
+/// A ban in the last pair of a Clist that fills its page.
+fn last_ban() -> Case {
+    let mut case = list_of("ban: in the last pair of a full list", 1);
+    fill(&mut case, 64, 126);
+    add(
+        &mut case,
+        &[
+            ("1,AP,32,40,129", "0,0"),
+            ("0,WR,4,8192", "0,0"),
+            ("0,WR,5,12", "0,0"),
+            ("0,LK,2048,15", "0,4"),
+            ("0,WR,126,8192", "0,0"),
+            ("0,WR,127,40", "0,0"),
+            ("0,LK,2048,15", "7,0"),
+            ("0,LK,2048,14", "0,4"),
+            // Behind an end.
+            ("0,WR,96,0", "0,0"),
+            ("0,LK,2048,15", "0,4"),
+        ],
+    );
+    case
+}
+
+/// Bans in the second page of a Clist.
+fn ban_beyond() -> Case {
+    let mut case = list_of("ban: beyond the first page of a list", 2);
+    fill(&mut case, 64, 128);
+    add(
+        &mut case,
+        &[
+            ("1,AP,32,40,129", "0,0"),
+            ("0,WR,4,8192", "0,0"),
+            ("0,WR,5,12", "0,0"),
+            ("0,WR,128,8192", "0,0"),
+            ("0,WR,129,40", "0,0"),
+            ("0,RD,2048", "7,0"),
+            ("0,LK,2048,14", "0,4"),
+            ("0,WR,129,0", "0,0"),
+            ("0,RD,2048", "0,8207"),
+        ],
+    );
+    fill(&mut case, 130, 190);
+    add(
+        &mut case,
+        &[
+            ("0,WR,190,8192", "0,0"),
+            ("0,WR,191,40", "0,0"),
+            ("0,RD,2048", "7,0"),
+            ("0,LK,2048,14", "0,4"),
+            // Behind an end.
+            ("0,WR,128,0", "0,0"),
+            ("0,RD,2048", "0,8207"),
         ],
     );
     case

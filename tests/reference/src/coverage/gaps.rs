@@ -29,6 +29,7 @@ impl Stand {
 pub struct Dropped {
     base: u64,
     pub word: u64,
+    pub mode: u64,
     pub stand: Stand,
     pub filled: bool,
 }
@@ -67,17 +68,23 @@ impl Gaps {
                 dropped.for_each(|d| d.filled = true);
             }
             Call::Dp { base, password } => {
-                let dropped = stand_of(before, base, password);
-                self.dropped.extend(dropped.map(|stand| Dropped {
-                    base,
-                    word: password,
-                    stand,
-                    filled: false,
-                }));
+                self.dropped.extend(dropped_by(before, base, password));
             }
             _ => {}
         }
     }
+}
+
+/// What a DP takes away, if it is an ordinary password beside others.
+fn dropped_by(before: &Monitor, base: u64, password: u64) -> Option<Dropped> {
+    let object = &before.objects[before.index_of_base(base)?];
+    Some(Dropped {
+        base,
+        word: password,
+        mode: object.ordinary_mode(password)?,
+        stand: stand_of(before, base, password)?,
+        filled: false,
+    })
 }
 
 /// The stand of an ordinary password among the others of its object, by age.

@@ -5,8 +5,14 @@ use super::gaps::Gaps;
 use super::restored::Restored;
 use crate::monitor::*;
 
-fn decides(mode: u64, rights: u64) -> bool {
-    mode_grants(mode, rights) || mode_denies(mode, rights)
+/// A true pair: its slot, address and mode.
+pub(super) type Pair = (usize, u64, u64);
+
+/// The pair that decides: the first that denies, else the first that grants.
+fn deciding(pairs: &[Pair], rights: u64) -> Option<Pair> {
+    let ban = pairs.iter().find(|p| mode_denies(p.2, rights));
+    let grant = || pairs.iter().find(|p| mode_grants(p.2, rights));
+    ban.or_else(grant).copied()
 }
 
 /// A call with the state before and after it, the pairs that WRs brought back
@@ -45,6 +51,11 @@ impl Seen<'_> {
         self.d().map_or(0, |d| self.before.domains[d].saved.len())
     }
 
+    /// The domain that RT would bring back.
+    pub(super) fn last_saved(&self) -> Option<&Frame> {
+        self.before.domains[self.d()?].saved.last()
+    }
+
     pub(super) fn locked(&self) -> usize {
         self.now().map_or(0, |f| f.locked)
     }
@@ -75,14 +86,13 @@ impl Seen<'_> {
         Some((&m.objects[index?], rights))
     }
 
-    /// The true pairs for the wanted object in searching order: slot,
-    /// address, mode.
-    pub(super) fn pairs(&self) -> Vec<(usize, u64, u64)> {
+    /// The true pairs for the wanted object in searching order.
+    pub(super) fn pairs(&self) -> Vec<Pair> {
         self.true_pairs(|list| self.before.list_pairs(list).collect())
     }
 
     /// The true pairs among those at `places` of each Clist.
-    fn true_pairs(&self, places: impl Fn(&Object) -> Vec<u64>) -> Vec<(usize, u64, u64)> {
+    fn true_pairs(&self, places: impl Fn(&Object) -> Vec<u64>) -> Vec<Pair> {
         let (Some((object, _)), Some(now)) = (self.wanted(), self.now()) else {
             return Vec::new();
         };
@@ -108,23 +118,19 @@ impl Seen<'_> {
         (self.done() || self.refused(Refusal::NotGranted)).then_some(rights)
     }
 
-    /// The slot, address and mode of the pair that decided.
-    pub(super) fn decider(&self) -> Option<(usize, u64, u64)> {
-        let rights = self.judged()?;
-        let pairs = self.pairs();
-        pairs.into_iter().find(|p| decides(p.2, rights))
+    /// The pair that decided.
+    pub(super) fn decider(&self) -> Option<Pair> {
+        deciding(&self.pairs(), self.judged()?)
     }
 
-    /// The slot, address and mode of the pair that would decide if every
-    /// Clist were its whole object.
-    pub(super) fn decider_without_ends(&self) -> Option<(usize, u64, u64)> {
-        let rights = self.judged()?;
+    /// The pair that would decide if every Clist were its whole object.
+    pub(super) fn decider_without_ends(&self) -> Option<Pair> {
         let pairs = self.true_pairs(|list| list.words().step_by(2).collect());
-        pairs.into_iter().find(|p| decides(p.2, rights))
+        deciding(&pairs, self.judged()?)
     }
 
     /// The decider, when the call was done.
-    pub(super) fn granter(&self) -> Option<(usize, u64, u64)> {
+    pub(super) fn granter(&self) -> Option<Pair> {
         if !self.done() {
             return None;
         }

@@ -1,6 +1,7 @@
 //! Plans about the ends of Clists: pairs behind an end, ends filled and moved,
 //! lists without an end.
 
+use super::bans::Key;
 use super::finding::{list_passwords, owner};
 use super::zero_pairs::Place;
 use super::*;
@@ -48,8 +49,8 @@ impl Generator {
         self.restore(d, writer, old, address);
     }
 
-    /// A pair behind the end of a Clist that would decide ahead of the one
-    /// that grants.
+    /// A pair behind the end of a Clist ahead of the one that grants: it would
+    /// be the first that grants, or a ban.
     pub(super) fn earlier_pair_behind(&mut self, d: usize) {
         let Some(object) = self
             .find(|m, o| m.granting_pair(d, o, R).is_some() && list_passwords(o).next().is_some())
@@ -63,22 +64,22 @@ impl Generator {
             return;
         };
         let full = object.passwords.len() == MAX_PASSWORDS;
-        let owner = owner(&self.model, &object).filter(|_| !full);
-        let mut password = list_passwords(&object).next().unwrap_or(1);
-        if let Some(owner) = owner {
-            password = self.new_password(&object);
+        let password = list_passwords(&object).next().unwrap_or(1);
+        let mut key = Key {
+            object,
+            password,
+            new: None,
+        };
+        if let Some(owner) = owner(&self.model, &key.object).filter(|_| !full) {
+            key.password = self.new_password(&key.object);
             let mode = self.random.pick(&[129, 129, 131, 143, 159, 1, 15]);
-            self.push(owner, "AP", &[object.base, password, mode]);
+            key.new = Some((mode, owner));
         }
-        self.write_pair(place.writer, place.at, object.base, password);
-        let address = self.within(&object);
+        self.write_key(place.writer, place.at, &key);
+        let address = self.within(&key.object);
         self.grow(d, &place, address);
         self.end_again(d, &place, address);
-        if let Some(owner) = owner {
-            if self.random.percent(60) {
-                self.push(owner, "DP", &[object.base, password]);
-            }
-        }
+        self.lift(&key, &place);
     }
 
     /// A place behind the end of a Clist in a slot ahead of the granting one;
@@ -98,7 +99,7 @@ impl Generator {
         Some(place)
     }
 
-    /// A Clist that fills its object; its last pair grants.
+    /// A Clist that fills its object; its last pair grants or bans.
     pub(super) fn full_list(&mut self, d: usize) {
         let short = |list: &Object| list.pages < 3;
         let lists: Vec<Object> = self.lists(d).into_iter().filter(short).collect();
@@ -110,15 +111,16 @@ impl Generator {
 
     /// A pair at an address of a Clist, and a list that grows up to it.
     pub(super) fn reach(&mut self, d: usize, list: &Object, at: u64) {
-        let target = self.unread(d, None);
-        let (Some(writer), Some((target, word))) = (self.writer(d, list), target) else {
+        let key = self.key(d, None);
+        let (Some(writer), Some(key)) = (self.writer(d, list), key) else {
             return;
         };
-        self.write_pair(writer, at, target.base, word);
-        let address = self.within(&target);
+        self.write_key(writer, at, &key);
+        let address = self.within(&key.object);
         let list = list.clone();
         let place = Place { list, writer, at };
         self.grow(d, &place, address);
         self.end_again(d, &place, address);
+        self.lift(&key, &place);
     }
 }

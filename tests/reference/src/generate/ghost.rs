@@ -9,7 +9,7 @@ struct Ghost {
     object: Object,
     password: u64,
     slot: u64,
-    /// What the slot's Clist alone grants.
+    /// What the slot's Clist alone grants, or bans.
     address: u64,
 }
 
@@ -29,20 +29,20 @@ impl Generator {
         let password = self.new_password(&object);
         let now = &self.model.domains[d].now;
         let slot = now.locked.max(now.slots.len().min(1)).min(7) as u64;
-        let target = self.unread(d, Some(base));
+        let key = self.key(d, Some(base));
         let ghost = Ghost {
             owner,
             password,
             slot,
-            address: target.as_ref().map_or(0, |(o, _)| o.words().start),
+            address: key.as_ref().map_or(0, |key| key.object.words().start),
             object,
         };
         self.push(owner, "AP", &[base, password, R]);
         let object = &ghost.object;
-        if let (Some(free), Some(writer), Some((target, word))) =
-            (self.free_pair(object), self.writer(d, object), target)
+        if let (Some(free), Some(writer), Some(key)) =
+            (self.free_pair(object), self.writer(d, object), &key)
         {
-            self.write_pair(writer, free, target.base, word);
+            self.write_key(writer, free, key);
         }
         self.push(d, "IN", &[slot, base, password]);
         self.probe(d, &ghost);
@@ -52,6 +52,9 @@ impl Generator {
             _ => self.drop_and_add(d, &ghost),
         }
         self.push(d, "RM", &[slot]);
+        if let Some(key) = key {
+            self.drop_key(&key);
+        }
     }
 
     /// Is the slot live?

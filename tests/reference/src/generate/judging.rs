@@ -1,46 +1,8 @@
 //! Plans that put the judging of pairs to the test.
 
-use super::finding::owner;
 use super::*;
 
 impl Generator {
-    /// A negative pair ahead of, or behind, the pair that grants.
-    pub(super) fn deny(&mut self, d: usize) {
-        let Some(object) = self.find(|m, o| {
-            o.base % ESTATE_PAGES != 0
-                && o.passwords.len() < MAX_PASSWORDS
-                && m.granting_pair(d, o, R).is_some()
-                && owner(m, o).is_some()
-        }) else {
-            return;
-        };
-        let Some(owner) = owner(&self.model, &object) else {
-            return;
-        };
-        let Some((at, list, writer)) = self.granting_place(d, &object) else {
-            return;
-        };
-        let password = self.new_password(&object);
-        let mode = self
-            .random
-            .pick(&[129, 130, 132, 136, 131, 143, 144, 145, 159]);
-        self.push(owner, "AP", &[object.base, password, mode]);
-        if self.random.percent(70) {
-            // The granting pair moves down, the negative one takes its place.
-            let old = self.model.word(at + 1);
-            if let Some(free) = self.free_pair(&list) {
-                self.write_pair(writer, free, object.base, old);
-            }
-            self.write_pair(writer, at, object.base, password);
-        } else if let Some(free) = self.free_pair(&list) {
-            self.write_pair(writer, free, object.base, password);
-        }
-        self.try_rights(d, &object);
-        if self.random.percent(60) {
-            self.push(owner, "DP", &[object.base, password]);
-        }
-    }
-
     /// The pair that grants R, its Clist, and a domain that may write there.
     pub(super) fn granting_place(&self, d: usize, object: &Object) -> Option<(u64, Object, usize)> {
         let at = self.model.granting_pair(d, object, R)?;
@@ -53,17 +15,31 @@ impl Generator {
     pub(super) fn try_rights(&mut self, d: usize, object: &Object) {
         let address = self.within(object);
         for _ in 0..2 + self.random.below(4) {
-            match self.random.below(7) {
+            match self.random.below(8) {
                 0 => self.push(d, "RD", &[address]),
                 1 => self.push(d, "WR", &[address, 5]),
                 2 => self.push(d, "EX", &[address]),
-                3 => self.push(d, "DP", &[object.base, 0]),
+                3 => self.try_owner(d, object),
                 4 => self.push(d, "CA", &[address, 0]),
                 _ => {
                     let rights = self.rights();
                     self.push(d, "LK", &[address, rights]);
                 }
             }
+        }
+    }
+
+    /// An owner's call that changes nothing: DP of zero, or AP or RG of a known
+    /// password.
+    fn try_owner(&mut self, d: usize, object: &Object) {
+        let known = object.passwords.first().map_or(0, |p| p.word);
+        match (self.random.below(3), self.list()) {
+            (0, _) => self.push(d, "AP", &[object.base, known, R]),
+            (1, Some(list)) => {
+                let entry = object.words().start;
+                self.push_register(d, object.base, known, list, &[entry]);
+            }
+            _ => self.push(d, "DP", &[object.base, 0]),
         }
     }
 

@@ -3,6 +3,7 @@
 
 mod access;
 mod accounts;
+mod bans;
 mod boot;
 mod boot_accounts;
 mod ends;

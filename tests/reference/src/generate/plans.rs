@@ -5,7 +5,7 @@ use super::*;
 type Plan = fn(&mut Generator, usize);
 
 /// What a domain may set out to do, and how often.
-pub(super) const PLANS: [(Plan, u64); 39] = [
+pub(super) const PLANS: [(Plan, u64); 40] = [
     (Generator::access, 30),
     (Generator::look, 10),
     (Generator::share, 8),
@@ -26,14 +26,15 @@ pub(super) const PLANS: [(Plan, u64); 39] = [
     (Generator::crowd, 1),
     (Generator::fence, 1),
     (Generator::seal, 1),
-    (Generator::deny, 3),
-    (Generator::ghost, 1),
+    (Generator::ban, 4),
+    (Generator::ban_behind_end, 2),
+    (Generator::ghost, 2),
     (Generator::fill, 1),
     (Generator::brim, 1),
     (Generator::split, 1),
     (Generator::stumble, 2),
     (Generator::strip, 1),
-    (Generator::tome, 2),
+    (Generator::tome, 3),
     (Generator::pair_behind, 3),
     (Generator::early_end, 2),
     (Generator::earlier_pair_behind, 2),

@@ -66,6 +66,7 @@ impl Generator {
                 4..=7 => words.start.saturating_sub(1),
                 8..=11 => words.end,
                 12 => TOP,
+                13 => WORDS,
                 _ => self.likely(Kind::Address),
             };
         }

@@ -76,7 +76,7 @@ impl Generator {
         }
     }
 
-    fn ask(&mut self, d: usize, address: u64) {
+    pub(super) fn ask(&mut self, d: usize, address: u64) {
         if self.random.percent(75) {
             self.push(d, "LK", &[address, R]);
         } else {

@@ -66,12 +66,6 @@ pub(super) const ENDS: &[Situation] = &[
         };
         granter != other && other.2 & NOT == 0
     }),
-    ("denied, a pair behind an earlier end would grant", |s| {
-        let (Some(decider), Some(other)) = (s.decider(), s.decider_without_ends()) else {
-            return false;
-        };
-        decider.2 & NOT != 0 && other.2 & NOT == 0
-    }),
     ("granted by the last pair ahead of the end", |s| {
         granted_in(s)
             .is_some_and(|(list, at)| at + 2 < list.words().end && is_zero(s.before, at + 2))
@@ -109,6 +103,10 @@ pub(super) const ENDS: &[Situation] = &[
     }),
     ("granted by a pair that was behind the end before", |s| {
         s.granter().is_some_and(|(_, at, _)| s.restored.has(at))
+    }),
+    ("denied by a pair that was behind the end before", |s| {
+        s.decider()
+            .is_some_and(|(_, at, mode)| mode & NOT != 0 && s.restored.has(at))
     }),
     ("WR fills the end, and another is behind", |s| {
         lengths(s).is_some_and(|(list, old, new)| new > old + 1 && new < list.pairs())

@@ -6,30 +6,11 @@ pub(super) const JUDGING: &[Situation] = &[
     ("denied by a negative pair", |s| {
         s.decider().is_some_and(|(_, _, mode)| mode & NOT != 0)
     }),
-    ("denied ahead of a pair that would grant", |s| {
-        let (Some((_, at, mode)), Some(rights)) = (s.decider(), s.judged()) else {
-            return false;
-        };
-        mode & NOT != 0
-            && s.pairs()
-                .iter()
-                .skip_while(|p| p.1 != at)
-                .any(|p| mode_grants(p.2, rights))
-    }),
     ("denied by a part of the wanted rights", |s| {
         let (Some((_, _, mode)), Some(rights)) = (s.decider(), s.judged()) else {
             return false;
         };
         mode & NOT != 0 && mode & rights != rights
-    }),
-    ("granted ahead of a negative pair", |s| {
-        let (Some((_, at, _)), Some(rights)) = (s.granter(), s.judged()) else {
-            return false;
-        };
-        s.pairs()
-            .iter()
-            .skip_while(|p| p.1 != at)
-            .any(|p| mode_denies(p.2, rights))
     }),
     ("negative pair with other rights passed over", |s| {
         let Some((_, at, _)) = s.granter() else {
@@ -40,6 +21,15 @@ pub(super) const JUDGING: &[Situation] = &[
             .take_while(|p| p.1 != at)
             .any(|p| p.2 & NOT != 0)
     }),
+    ("granted ahead of a negative pair with other rights", |s| {
+        let Some((_, at, _)) = s.granter() else {
+            return false;
+        };
+        s.pairs()
+            .iter()
+            .skip_while(|p| p.1 != at)
+            .any(|p| p.2 & NOT != 0)
+    }),
     ("owner's call granted behind negative P", |s| {
         let (Some((_, at, _)), Some(_)) = (s.granter(), s.owned()) else {
             return false;
@@ -47,6 +37,15 @@ pub(super) const JUDGING: &[Situation] = &[
         s.pairs()
             .iter()
             .take_while(|p| p.1 != at)
+            .any(|p| p.2 == NOT | P)
+    }),
+    ("owner's call granted ahead of negative P", |s| {
+        let (Some((_, at, _)), Some(_)) = (s.granter(), s.owned()) else {
+            return false;
+        };
+        s.pairs()
+            .iter()
+            .skip_while(|p| p.1 != at)
             .any(|p| p.2 == NOT | P)
     }),
     ("two pairs would grant only together", |s| {

@@ -1,6 +1,9 @@
 //! Situations that a good run comes to.
 
 mod accounts;
+mod ban_changes;
+mod bans;
+mod bans_aside;
 mod boot_accounts;
 mod boots;
 mod ends;
@@ -16,26 +19,32 @@ mod registrations;
 mod slots;
 mod whole_lock;
 
+pub use ban_changes::BAN_CHANGES;
+pub use bans::BANS;
+pub use bans_aside::BANS_ASIDE;
 pub use order::ORDER;
 
 use super::charges::Deletion;
-use super::seen::Seen;
+use super::seen::{Pair, Seen};
 use crate::monitor::*;
 
 /// A situation's name, and whether a call is in it.
 pub type Situation = (&'static str, fn(&Seen) -> bool);
 
-const GROUPS: [&[Situation]; 16] = [
+const GROUPS: [&[Situation]; 19] = [
     boots::BOOTS,
     boot_accounts::BOOT_ACCOUNTS,
     accounts::ACCOUNTS_CHARGED,
     accounts::PAGES_BACK,
     judging::JUDGING,
+    BANS,
+    BANS_ASIDE,
+    BAN_CHANGES,
     lists::LISTS,
     ends::ENDS,
     objects::OBJECTS,
     passwords::PASSWORDS,
-    order::ORDER,
+    ORDER,
     modes::MODES,
     registrations::REGISTRATIONS,
     slots::SLOTS,

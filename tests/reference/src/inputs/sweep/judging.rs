@@ -1,4 +1,4 @@
-//! Modes, rights, and the places of pairs.
+//! Modes, rights, the places of pairs, and those of bans.
 
 use super::{Sweep, TOP};
 use crate::monitor::legal_mode;
@@ -23,7 +23,9 @@ impl Sweep {
                     self.add("0,IN,1,1,30");
                     self.add("0,RM,1");
                 }
+                // An owner who is banned drops no password.
                 self.add("0,WR,3,21");
+                self.add("0,WR,5,0");
             }
             self.add("0,DP,1,30");
         }
@@ -57,6 +59,21 @@ impl Sweep {
                 self.add(format!("0,WR,{at},8192"));
                 self.add(format!("0,WR,{},0", at + 1));
             }
+        }
+    }
+
+    /// The long Clist, whose first pair grants, with a ban on W at every place
+    /// behind it.
+    pub(super) fn bans(&mut self) {
+        self.add("1,AP,32,40,130");
+        self.add("0,WR,64,8192");
+        self.add("0,WR,65,12");
+        for at in (66..2048).step_by(2) {
+            self.add(format!("0,WR,{at},8192"));
+            self.add(format!("0,WR,{},40", at + 1));
+            self.add("0,LK,2048,1");
+            self.add("0,LK,2048,2");
+            self.add(format!("0,WR,{},0", at + 1));
         }
     }
 }

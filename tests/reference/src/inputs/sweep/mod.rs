@@ -20,6 +20,7 @@ pub fn sweep() -> Vec<u8> {
     sweep.bounds();
     sweep.pairs();
     sweep.ends();
+    sweep.bans();
     sweep.addresses();
     sweep.slots();
     sweep.choices();

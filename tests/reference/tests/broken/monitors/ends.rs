@@ -31,7 +31,7 @@ const WHOLE_OBJECT: Judge = Judge {
 };
 
 /// The state with no zero pair: the first word of each names no page.
-fn without_ends(m: &Monitor) -> Monitor {
+pub(super) fn without_ends(m: &Monitor) -> Monitor {
     let mut copy = m.clone();
     for at in (0..WORDS).step_by(2).filter(|&at| zero(m, at)) {
         copy.store[at as usize] = u64::MAX;
@@ -125,14 +125,7 @@ pub(super) const ENDS: &[Broken] = &[
         RIGHT.judge(&copy, d, at, rights)
     }),
     ("pairs behind the end still deny", |m, _, d, c| {
-        let outcome = m.call(d, c);
-        match looks(d, c) {
-            Some((at, rights)) if outcome.is_ok() => {
-                WHOLE_OBJECT.judge(m, d, at, rights)?;
-                outcome
-            }
-            _ => outcome,
-        }
+        WHOLE_OBJECT.look_less(m, d, c)
     }),
     ("pairs behind the end still grant CA", |m, _, d, c| {
         let outcome = m.call(d, c);

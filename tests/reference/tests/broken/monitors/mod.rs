@@ -1,9 +1,12 @@
 //! Broken monitors.
 
 mod accounts;
+mod ban_calls;
+mod bans;
 mod boot_accounts;
 mod boots;
 mod ends;
+mod judge;
 mod judging;
 mod modes;
 mod objects;
@@ -16,6 +19,7 @@ mod traps;
 mod whole_lock;
 
 use crate::found;
+use judge::{is_live, looks, true_mode, Judge, Verdict, RIGHT};
 use refmonitor::compare::Ran;
 use refmonitor::lines::{run_bytes, run_with};
 use refmonitor::monitor::*;
@@ -44,6 +48,8 @@ fn broken() -> impl Iterator<Item = Broken> {
         judging::JUDGING,
         modes::MODES,
         ends::ENDS,
+        bans::BANS,
+        ban_calls::BAN_CALLS,
         objects::OBJECTS,
         slots::SLOTS,
         whole_lock::WHOLE_LOCK,
@@ -54,74 +60,6 @@ fn broken() -> impl Iterator<Item = Broken> {
         pages_back::PAGES_BACK,
     ];
     groups.into_iter().flatten().copied()
-}
-
-/// A way of judging.
-#[derive(Clone, Copy)]
-struct Judge {
-    /// The addresses of a Clist's pairs.
-    pairs: fn(&Monitor, &Object) -> Vec<u64>,
-    /// The mode of a pair for an object, by the pair's words.
-    mode: fn(&Object, u64, u64) -> Option<u64>,
-    /// Whether a mode denies the wanted rights.
-    denies: fn(u64, u64) -> bool,
-}
-
-/// The way that is right; a broken one differs from it.
-const RIGHT: Judge = Judge {
-    pairs: |m, list| m.list_pairs(list).collect(),
-    mode: true_mode,
-    denies: mode_denies,
-};
-
-impl Judge {
-    fn judge(self, m: &Monitor, d: u64, address: u64, wanted: u64) -> Outcome {
-        let index = m.index_at(address).ok_or(Refusal::NotGranted)?;
-        let object = &m.objects[index];
-        for &slot in &m.domains[d as usize].now.slots {
-            let Some(list) = m.clist(slot) else { continue };
-            for at in (self.pairs)(m, list) {
-                let Some(mode) = (self.mode)(object, m.word(at), m.word(at + 1)) else {
-                    continue;
-                };
-                if mode_grants(mode, wanted) {
-                    return Ok(Done::Value(at));
-                }
-                if (self.denies)(mode, wanted) {
-                    return Err(Refusal::NotGranted);
-                }
-            }
-        }
-        Err(Refusal::NotGranted)
-    }
-
-    /// LK in this way, the other calls as they should be.
-    fn look(self, m: &mut Monitor, d: u64, c: &Call) -> Outcome {
-        match looks(d, c) {
-            Some((at, rights)) => self.judge(m, d, at, rights),
-            None => m.call(d, c),
-        }
-    }
-}
-
-/// The mode as it should be.
-fn true_mode(object: &Object, word: u64, password: u64) -> Option<u64> {
-    if word / 256 == object.base {
-        object.mode(password)
-    } else {
-        None
-    }
-}
-
-/// An LK that is in range.
-fn looks(domain: u64, call: &Call) -> Option<(u64, u64)> {
-    match *call {
-        Call::Lk { address, rights } => {
-            (domain < 4 && address < WORDS && (1..32).contains(&rights))
-                .then_some((address, rights))
-        }
-        _ => None,
-    }
 }
 
 fn now(m: &mut Monitor, domain: u64) -> &mut Frame {
