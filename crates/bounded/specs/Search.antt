@@ -50,16 +50,19 @@ pub skipped-more : {test : ℕ → Bool} {a b : ℕ} → Skipped test a b → te
 skipped-more {test} {a} {b} s e =
     record { upward = omega arith; fails = λ k l h. ⊎-elim (λ q. rw q e) (λ ne. s .fails k l (omega arith)) (same-or-not k b) }
 
+-- what holds at place i, and goes from each place to the next up to j, holds at j
+pub along : {i j : ℕ} (P : ℕ → Type 0) → P i → ((k : ℕ) → i ≤ k → k < j → P k → P (k + 1)) → i ≤ j → P j
+along {i} {j} P p step h = let e : i + (j - i) ≡ j = omega arith in rw e at (go (j - i) (omega arith))
+  where
+    go : (m : ℕ) → i + m ≤ j → P (i + m)
+    go ℕ.zero l = let e : i + 0 ≡ i = omega arith in rw e p
+    go (suc m) l = let e : i + suc m ≡ i + m + 1 = omega arith in rw e (step (i + m) (omega arith) (omega arith) (go m (omega arith)))
+
 -- what a loop that searches knows once it has passed over places that fail
 pub skip : {A : Type 0} {test : ℕ → Bool} {value : ℕ → A} {none : A} {n i j : ℕ}
     → Searching test value none n i → Skipped test i j → j ≤ n → Searching test value none n j
-skip {A} {test} {value} {none} {n} {i} {j} s g h = let e : i + (j - i) ≡ j = omega arith in rw e at (go (j - i) (omega arith))
-  where
-    go : (m : ℕ) → i + m ≤ j → Searching test value none n (i + m)
-    go ℕ.zero l = let e : i + 0 ≡ i = omega arith in rw e s
-    go (suc m) l =
-        let e : i + suc m ≡ i + m + 1 = omega arith in
-        rw e (next (go m (omega arith)) (omega arith) (g .fails (i + m) (omega arith) (omega arith)))
+skip {A} {test} {value} {none} {n} s g h =
+    along (Searching test value none n) s (λ k a l q. next q (omega arith) (g .fails k a l)) (g .upward)
 
 -- `a` is the value at a place that passes the test, and no place before it passes
 pub record FirstAt {A : Type 0} (test : ℕ → Bool) (value : ℕ → A) (i n : ℕ) (a : A) : Type 0 where

@@ -1,12 +1,12 @@
 -- The walk over verdicts that remembers the first grant and stops at the first denial: what its loops know.
-use Prim.Native.Nat.{ℕ, suc, _+_, _/_, _-_, _<_, _≤_}
+use Prim.Native.Nat.{ℕ, _+_, _/_, _-_, _<_, _≤_}
 use mathlib.Core.Path.{_≡_, refl, ap, sym, _∙_}
 use mathlib.Core.Bool.{Bool, true, false, cond, true≢false}
 use mathlib.Core.List.{List}
 use mathlib.Core.Logic.{⊎-elim}
 use native.Mathlib.Omega.{arith}
 use lib.ListN.{length}
-use Rattle.bounded.specs.Search.{first, Searching, start, next, stop, over, first-cases, first-none, first-step, first-end}
+use Rattle.bounded.specs.Search.{first, Searching, start, next, stop, over, along, first-cases, first-none, first-step, first-end}
 use Rattle.state.specs.declared.Object.{Object}
 use Rattle.judge.specs.Search.{pairVerdict, granting, denying, listFirst}
 use Rattle.judge.specs.declared.Verdict.{Verdict}
@@ -74,15 +74,12 @@ module _ {d g : ℕ → Verdict} {n : ℕ} where
   -- places that say nothing
   pub walk-skip : {i : ℕ} {found : Verdict} (j : ℕ) → Walking d g n i found → i ≤ j → j ≤ n
       → ((k : ℕ) → i ≤ k → k < j → (d k ≡ Passed) × (g k ≡ Passed)) → Walking d g n j found
-  walk-skip {i} {found} j w a b silent = let e : i + (j - i) ≡ j = omega arith in rw e at (go (j - i) (omega arith))
+  walk-skip {i} {found} j w a b silent = along (λ k. Walking d g n k found) w passed a
     where
-      go : (m : ℕ) → i + m ≤ j → Walking d g n (i + m) found
-      go ℕ.zero l = let e : i + 0 ≡ i = omega arith in rw e w
-      go (suc m) l =
-          let e : i + suc m ≡ i + m + 1 = omega arith in
-          let q = silent (i + m) (omega arith) (omega arith) in
-          let x = walk-next (go m (omega arith)) (omega arith) (rw (q .0) refl) (rw (q .1) refl) in
-          rw (e, ← or-nothing found) (rw (q .1) at x)
+      passed : (k : ℕ) → i ≤ k → k < j → Walking d g n k found → Walking d g n (k + 1) found
+      passed k from to x =
+          let q = silent k from to in
+          rw (← or-nothing found) (rw (q .1) at (walk-next x (omega arith) (rw (q .0) refl) (rw (q .1) refl)))
 
 -- what a Clist grants is no denial
 pub grant-undenied : (list : List ℕ) (start : ℕ) (o : Object) (wanted : ℕ) → denying (listFirst granting list start o wanted) ≡ false

@@ -15,7 +15,7 @@ use Rattle.judge.specs.Search.{pairVerdict, granting, denying, frameFirs
 use Rattle.judge.specs.Judged.{judged}
 use Rattle.judge.specs.Pairs.{pairsAt, modeAt, addressAt, EachPair}
 use Rattle.judge.specs.Granting.{GrantsFirst, DeniesAt, Undenied, Grantable, Allowed}
-use Rattle.judge.specs.Laws.First.{FirstPasses, frame-cases, frame-none}
+use Rattle.judge.specs.Laws.First.{FirstPasses, NonePasses, frame-cases, frame-none}
 use Rattle.judge.specs.Laws.Verdicts.{granting-is, denying-is, pair-at, first-exactly, tested, judged-by}
 use Rattle.judge.specs.declared.Target.{Target}
 use Rattle.judge.specs.declared.Verdict.{Verdict}
@@ -28,12 +28,15 @@ module _ (t : Table) (words : List ℕ) (f : Frame) (o : Object) (wanted : ℕ) 
   granted-first =
       first-exactly granting refl (λ a. refl) t words f o wanted _ (λ mode at. (λ h. sym (granting-is mode wanted at) ∙ h, λ h. granting-is mode wanted at ∙ h))
 
+  -- no verdict denies where no mode does
+  none-denies : NonePasses denying t words f o wanted ↔ Undenied t words f o wanted
+  unfolding pairVerdict
+  none-denies = (λ n i j k l. sym (denying-is _ wanted _) ∙ n i j k l, λ u i j k l. denying-is _ wanted _ ∙ u i j k l)
+
   -- some pair denies, or none does
   pub denied-or-not : ((a : ℕ) × DeniesAt t words f o wanted a) ⊎ Undenied t words f o wanted
   unfolding pairVerdict
-  denied-or-not =
-      ⊎-elim (λ d. inl (addressAt f (d .slot) (d .place), denies-at d)) (λ n. inr (λ i j k l. sym (denying-is _ wanted _) ∙ n i j k l))
-      (frame-cases denying refl t words f o wanted)
+  denied-or-not = ⊎-elim (λ d. inl (_, denies-at d)) (λ n. inr (none-denies .0 n)) (frame-cases denying refl t words f o wanted)
     where
       denies-at : {v : Verdict} (d : FirstPasses denying t words f o wanted v) → DeniesAt t words f o wanted (addressAt f (d .slot) (d .place))
       denies-at d =
@@ -43,11 +46,9 @@ module _ (t : Table) (words : List ℕ) (f : Frame) (o : Object) (wanted : ℕ) 
           }
 
   undenied-exactly : denying (frameFirst denying t words f o wanted) ≡ false ↔ Undenied t words f o wanted
-  unfolding pairVerdict
   undenied-exactly = (
-    λ h. ⊎-elim (λ d. absurd (true≢false (sym (d .passing) ∙ ap denying (d .there) ∙ h))) (λ n i j k l. sym (denying-is _ wanted _) ∙ n i j k l)
-        (frame-cases denying refl t words f o wanted),
-    λ u. ap denying (frame-none denying refl t words f o wanted (λ i j k l. denying-is _ wanted _ ∙ u i j k l)),
+    λ h. ⊎-elim (λ d. absurd (true≢false (sym (d .passing) ∙ ap denying (d .there) ∙ h))) (none-denies .0) (frame-cases denying refl t words f o wanted),
+    λ u. ap denying (frame-none denying refl t words f o wanted (none-denies .1 u)),
   )
 
   verdict-exactly : (a : ℕ) → frameVerdict t words f o wanted ≡ Verdict.Granted a ↔ (GrantsFirst t words f o wanted a × Undenied t words f o wanted)

@@ -50,7 +50,9 @@ unfolding verdictOf
 granted-verdict mode wanted at h = rw h
 
 verdict-granted : (mode wanted at a : ℕ) → verdictOf mode wanted at ≡ Granted a → (a ≡ at) × (grants mode wanted ≡ true)
-verdict-granted mode wanted at a h = let g : grants mode wanted ≡ true = sym (granting-is mode wanted at) ∙ ap granting h in (same (sym (granted-verdict mode wanted at g) ∙ h), g)
+verdict-granted mode wanted at a h =
+    let g : grants mode wanted ≡ true = sym (granting-is mode wanted at) ∙ ap granting h in
+    (same (sym (granted-verdict mode wanted at g) ∙ h), g)
   where
     same : Granted at ≡ Granted a → a ≡ at
     same e = cc
