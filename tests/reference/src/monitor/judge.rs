@@ -19,30 +19,27 @@ impl Monitor {
         places.take_while(|&at| self.word(at) != 0 || self.word(at + 1) != 0)
     }
 
-    /// Rule 2: the true pairs for an object in the domain's live lists, each by
-    /// its address and mode.
-    fn true_pairs<'a>(
-        &'a self,
-        domain: usize,
-        object: &'a Object,
-    ) -> impl Iterator<Item = (u64, u64)> + 'a {
-        let slots = self.domains[domain].now.slots.iter();
-        let lists = slots.filter_map(|&slot| self.clist(slot));
-        let places = lists.flat_map(|list| self.list_pairs(list));
-        let named = places.filter(|&at| self.word(at) / 256 == object.base);
-        named.filter_map(|at| Some((at, object.mode(self.word(at + 1))?)))
-    }
-
-    /// Rules 3 and 4: the address of the first pair that grants, if there is
-    /// one and no pair denies, wherever it stands.
+    /// Rules 2 and 3: the address of the first pair that grants, if there is one
+    /// and no pair denies, wherever it stands in the domain's live lists.
     pub fn granting_pair(&self, domain: usize, object: &Object, wanted: u64) -> Option<u64> {
         let mut first = None;
-        for (at, mode) in self.true_pairs(domain, object) {
-            if mode_denies(mode, wanted) {
-                return None;
-            }
-            if mode_grants(mode, wanted) {
-                first = first.or(Some(at));
+        for &slot in &self.domains[domain].now.slots {
+            let Some(list) = self.clist(slot) else {
+                continue;
+            };
+            for at in self.list_pairs(list) {
+                if self.word(at) / 256 != object.base {
+                    continue;
+                }
+                let Some(mode) = object.mode(self.word(at + 1)) else {
+                    continue;
+                };
+                if mode_denies(mode, wanted) {
+                    return None;
+                }
+                if first.is_none() && mode_grants(mode, wanted) {
+                    first = Some(at);
+                }
             }
         }
         first
