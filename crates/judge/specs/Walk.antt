@@ -1,7 +1,7 @@
 -- The walk over verdicts that remembers the first grant and stops at the first denial: what its loops know.
 use Prim.Native.Nat.{ℕ, _+_, _/_, _-_, _<_, _≤_}
 use mathlib.Core.Path.{_≡_, refl, ap, sym, _∙_}
-use mathlib.Core.Bool.{Bool, true, false, cond, true≢false}
+use mathlib.Core.Bool.{true, false, cond, true≢false}
 use mathlib.Core.List.{List}
 use mathlib.Core.Logic.{⊎-elim}
 use native.Mathlib.Omega.{arith}

@@ -13,9 +13,9 @@ use Rattle.state.specs.declared.Frame.{Frame}
 use Rattle.clists.specs.Clist.{named, live, clist, listAt}
 use Rattle.judge.specs.Search.{granting, denying, listFirst, slotFirst, frameFirst, frameVerdict}
 use Rattle.clists.specs.Laws.Lists.{list-unused}
-use Rattle.judge.specs.Walk.{listVerdict, orElse, Walking, walk-start, walk-next, walk-stop, walk-over, walk-skip, grant-undenied}
+use Rattle.judge.specs.Walk.{listVerdict, Walking, walk-start, walk-next, walk-stop, walk-over, walk-skip, grant-undenied}
 use Rattle.judge.specs.declared.Verdict.{Verdict}
-use Rattle.judge.specs.declared.Verdict.the-variants.{Denied, Passed}
+use Rattle.judge.specs.declared.Verdict.the-variants.{Denied}
 use Rattle.judge.proofs.frame_verdict.Statement.{statement}
 use Rattle.judge.proofs.frame_verdict.Tie as tie
 

@@ -1,12 +1,12 @@
 use Prim.Native.Nat.{ℕ, _-_, _≤_, _<_}
-use mathlib.Core.Path.{_≡_, ap, sym, _∙_}
+use mathlib.Core.Path.{_≡_}
 use mathlib.Core.Bool.{true}
 use mathlib.Core.List.{List}
 use native.Mathlib.Omega.{arith}
 use borrow.Author.Needs.{needs}
 use Rattle.bounded.specs.Search.{Skipped}
 use Rattle.state.specs.declared.Object.{Object}
-use Rattle.judge.specs.Search.{pairVerdict, denying, listFirst}
+use Rattle.judge.specs.Search.{pairVerdict, listFirst}
 use Rattle.judge.specs.Naming.{names, other-passed}
 use Rattle.judge.specs.Walk.{listVerdict, Walking, walk-start, walk-next, walk-stop, walk-over, walk-skip}
 use Rattle.judge.specs.declared.Verdict.{Verdict}
