@@ -1,12 +1,12 @@
--- What an access answers, for any rights: granted or refused, from what checks 5 and 7 give.
+-- What an access answers, for any rights: granted or refused, from what checks 2, 5 and 7 give.
 use Prim.Native.Nat.{ℕ, _<_}
-use mathlib.Core.Path.{_≡_, refl, _∙_}
+use mathlib.Core.Path.{_≡_, refl, ap, _∙_}
 use mathlib.Core.Bool.{Bool, true, false, cond, _&&_}
 use mathlib.Core.List.{List, [], _∷_}
 use native.Mathlib.Omega.{arith}
-use lib.Dec.{ltb}
+use lib.Dec.{ltb, eqb}
 use lib.ListN.{length, getD, set}
-use borrow.Author.Tests.{ltb-true, lt-ltb}
+use borrow.Author.Tests.{eqb-true, ltb-true, lt-ltb}
 use Rattle.rights.specs.Modes.{read, write, execute}
 use Rattle.state.specs.Places.{domainAt}
 use Rattle.state.specs.declared.Table.{Table}
@@ -20,26 +20,29 @@ use Rattle.calls.specs.View.{World, rights, search, check, isSome}
 use Rattle.calls.specs.Rules.{rule, inRange, unlocked, late, changes, view}
 use Rattle.calls.specs.Step.{world, result, answeredWith, done, unchecked}
 use Rattle.calls.specs.Parts.{Answers}
-use Rattle.calls.specs.Laws.Returns.{by-range, by-late, by-done}
+use Rattle.calls.specs.Laws.Returns.{by-caller, by-range, by-late, by-done}
 use Rattle.calls.specs.declared.Call.the-variants.{OnStore}
+use Rattle.calls.specs.declared.Caller.the-variants.{Refused as Caller·Refused}
 use Rattle.calls.specs.declared.Access.{Access}
 use Rattle.calls.specs.declared.Access.the-variants.{Read, Write, Execute, Lookup}
 use Rattle.calls.specs.declared.Answer.{Answer}
 use Rattle.calls.specs.declared.Answer.the-variants.{Done, Refused as Answer·Refused}
 use Rattle.calls.specs.declared.Refusal.{Refusal}
-use Rattle.calls.specs.declared.Refusal.the-variants.{OutOfRange, NotGranted}
+use Rattle.calls.specs.declared.Refusal.the-variants.{StoreLength, OutOfRange, NotGranted}
 use Rattle.access_calls.specs.Accessed.{grantOf, accessedBy}
 use Rattle.access_calls.specs.declared.Grant.{Grant}
 use Rattle.access_calls.specs.declared.Grant.the-variants as grant
 
 -- a granted address lies in the store, and its judgement is the grant
-granted-by : (n a : ℕ) (j : Judgement) {pair : ℕ} → accessedBy n a j ≡ grant.Granted pair → (a < n) × (j ≡ Granted pair)
-granted-by n a j {pair} h = go (ltb a n) refl j h
+granted-by : (n a : ℕ) (j : Judgement) {pair : ℕ} → accessedBy n a j ≡ grant.Granted pair → (n ≡ 8192) × (a < 8192) × (j ≡ Granted pair)
+granted-by n a j {pair} h = go (eqb n 8192) (ltb a 8192) refl refl j h
   where
-    go : (b : Bool) → ltb a n ≡ b → (j : Judgement) → cond b (grantOf j) (grant.Refused OutOfRange) ≡ grant.Granted pair → (a < n) × (j ≡ Granted pair)
-    go true e (Granted p) k = (ltb-true a n e, cc)
-    go true e Refused k = let z : _≡_ {A = ℕ} 0 1 = cc in absurd (omega arith)
-    go false e j k = let z : _≡_ {A = ℕ} 0 1 = cc in absurd (omega arith)
+    go : (l b : Bool) → eqb n 8192 ≡ l → ltb a 8192 ≡ b → (j : Judgement)
+        → cond l (cond b (grantOf j) (grant.Refused OutOfRange)) (grant.Refused StoreLength) ≡ grant.Granted pair → (n ≡ 8192) × (a < 8192) × (j ≡ Granted pair)
+    go true true i e (Granted p) k = (eqb-true n 8192 i, ltb-true a 8192 e, cc)
+    go true true i e Refused k = let z : _≡_ {A = ℕ} 0 1 = cc in absurd (omega arith)
+    go true false i e j k = let z : _≡_ {A = ℕ} 0 1 = cc in absurd (omega arith)
+    go false b i e j k = let z : _≡_ {A = ℕ} 0 1 = cc in absurd (omega arith)
 
 -- rights in range leave the address's range alone
 rights-range : (a r : ℕ) → ltb 0 r && ltb r 32 ≡ true → inRange (OnStore (Lookup a r)) ≡ ltb a 8192
@@ -63,18 +66,22 @@ rights-out a r k = go (ltb a 8192) (ltb 0 r) (ltb r 32) k
 module _ (t : Table) (f : Frame) (words : List ℕ) (c : Access) (a r : ℕ) (range : inRange (OnStore c) ≡ ltb a 8192)
     (free : (g : Frame) → unlocked (OnStore c) g ≡ true)
     (asks : (d : ℕ) (w : World) → late d (OnStore c) (view judged w d (OnStore c)) ≡ check NotGranted (isSome (search judged w (domainAt (w .state) d .active) (rights (Address a) r))) ∷ []) where
-  -- refused where checks 5 and 7 refuse it
+  -- refused where checks 2, 5 and 7 refuse it
   access-refused : {why : Refusal} → accessedBy (length words) a (judged t words f (Address a) r) ≡ grant.Refused why
       → Answers t f words c (Answer·Refused why) words
-  access-refused {why} h s d e p q = go (ltb a (length words)) refl (judged t words f (Address a) r) refl h
+  access-refused {why} h s d e p q = go (eqb (length words) 8192) (ltb a 8192) refl refl (judged t words f (Address a) r) refl h
     where
-      go : (b : Bool) → ltb a (length words) ≡ b → (j : Judgement) → judged t words f (Address a) r ≡ j
-          → cond b (grantOf j) (grant.Refused OutOfRange) ≡ grant.Refused why → result (answeredWith s (Answer·Refused why)) words ≡ unchecked (world s words) d (OnStore c)
-      go true i (Granted pair) g k = let z : _≡_ {A = ℕ} 0 1 = cc in absurd (omega arith)
-      go true i Refused g k =
+      go : (l b : Bool) → eqb (length words) 8192 ≡ l → ltb a 8192 ≡ b → (j : Judgement) → judged t words f (Address a) r ≡ j
+          → cond l (cond b (grantOf j) (grant.Refused OutOfRange)) (grant.Refused StoreLength) ≡ grant.Refused why
+          → result (answeredWith s (Answer·Refused why)) words ≡ unchecked (world s words) d (OnStore c)
+      go true true n i (Granted pair) g k = let z : _≡_ {A = ℕ} 0 1 = cc in absurd (omega arith)
+      go true true n i Refused g k =
           let w : why ≡ NotGranted = cc in
-          by-late s words d (OnStore c) e {why = NotGranted} (range ∙ rw (← e .long) i) (free _) (rw (asks d (world s words), p, q, g)) (rw w)
-      go false i j g k = let w : why ≡ OutOfRange = cc in by-range s words d (OnStore c) e (range ∙ rw (← e .long) i) (rw w)
+          by-late s words d (OnStore c) (record { long = eqb-true _ 8192 n; known = e }) {why = NotGranted} (range ∙ i) (free _) (rw (asks d (world s words), p, q, g)) (rw w)
+      go true false n i j g k =
+          let w : why ≡ OutOfRange = cc in
+          by-range s words d (OnStore c) (record { long = eqb-true _ 8192 n; known = e }) (range ∙ i) (rw w)
+      go false b n i j g k = let w : StoreLength ≡ why = cc in by-caller s words d (OnStore c) why (rw n (ap Caller·Refused w))
 
   -- done where it is granted
   access-granted : {pair : ℕ} {x : Answer} {words′ : List ℕ} → accessedBy (length words) a (judged t words f (Address a) r) ≡ grant.Granted pair
@@ -82,10 +89,9 @@ module _ (t : Table) (f : Frame) (words : List ℕ) (c : Access) (a r : ℕ) (ra
       → result (answeredWith s x) words′ ≡ done (world s words) d (OnStore c) (view judged (world s words) d (OnStore c)))
       → Answers t f words c x words′
   access-granted {pair} h k s d e p q =
-      let (l, g) = granted-by (length words) a (judged t words f (Address a) r) h in
-      let i : ltb a 8192 ≡ true = rw (← e .long) (lt-ltb a (length words) l) in
+      let (n, l, g) = granted-by (length words) a (judged t words f (Address a) r) h in
       let u : judged (s .table) words (domainAt s d .active) (Address a) r ≡ Granted pair = rw (p, q) g in
-      by-done s words d (OnStore c) e (range ∙ i) (free _) (rw (asks d (world s words), u)) (k s d u)
+      by-done s words d (OnStore c) (record { long = n; known = e }) (range ∙ lt-ltb a 8192 l) (free _) (rw (asks d (world s words), u)) (k s d u)
 
 -- the address of an access, the rights that it wants, and whether these are in range
 abbrev pub addressOf : Access → ℕ
@@ -120,15 +126,17 @@ leaves (Execute a) words = words
 leaves (Lookup a r) words = words
 
 module _ (t : Table) (f : Frame) (words : List ℕ) where
-  -- what checks 5 and 7 give an access
+  -- what checks 2, 5 and 7 give an access
   abbrev pub grantTo : Access → Grant
   grantTo c = accessedBy (length words) (addressOf c) (judged t words f (Address (addressOf c)) (rightsOf c))
 
   -- a granted one lies in the store
   pub within : (c : Access) {pair : ℕ} → grantTo c ≡ grant.Granted pair → addressOf c < length words
-  within c h = granted-by (length words) (addressOf c) (judged t words f (Address (addressOf c)) (rightsOf c)) h .0
+  within c h =
+      let (n, l, g) = granted-by (length words) (addressOf c) (judged t words f (Address (addressOf c)) (rightsOf c)) h in
+      omega arith
 
-  -- AN ACCESS IS REFUSED AS CHECKS 5 AND 7 REFUSE IT
+  -- AN ACCESS IS REFUSED AS CHECKS 2, 5 AND 7 REFUSE IT
   pub refused : (c : Access) {why : Refusal} → rightsOk c ≡ true → grantTo c ≡ grant.Refused why → Answers t f words c (Answer·Refused why) words
   unfolding inRange unlocked late view
   refused (Read a) k h = access-refused t f words (Read a) a read refl (λ g. refl) (λ d w. refl) h

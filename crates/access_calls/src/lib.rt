@@ -2,6 +2,7 @@
 use calls::Access;
 use calls::Answer;
 use calls::Refusal;
+use calls::STORE_WORDS;
 use judge::Judgement;
 use judge::Target;
 use judge::judge;
@@ -22,11 +23,15 @@ enum Grant {
     Refused(Refusal),
 }
 
-// An access for any rights: the address lies in the store (check 5), and the frame's Clists grant them (check 7).
+// An access for any rights: the store has its length (check 2), the address lies in it (check 5), and the frame's Clists grant them
+// (check 7).
 fn accessed(t: Table, store: &[u64], f: Frame, address: u64, wanted: Rights) -> Grant
     ensures { λ r. ⌜ r ≡ accessedBy (length (now (store .entry))) address (judged t (now (store .entry)) f (Address address) (wanted .bits)) ⌝ }
 {
-    if store.len() as u64 <= address {
+    if store.len() != STORE_WORDS {
+        return Grant::Refused(Refusal::StoreLength);
+    }
+    if 8192 <= address {
         return Grant::Refused(Refusal::OutOfRange);
     }
     let Judgement::Granted(pair) = judge(t, store, f, Target::Address(address), wanted) else {
@@ -75,6 +80,9 @@ pub fn execute(t: Table, store: &[u64], f: Frame, address: u64) -> Answer
 pub fn apd_lookup(t: Table, store: &[u64], f: Frame, address: u64, rights: u64) -> Answer
     ensures { λ r. ⌜ Answers t f (now (store .entry)) (Lookup address rights) r (now (store .entry)) ⌝ }
 {
+    if store.len() != STORE_WORDS {
+        return Answer::Refused(Refusal::StoreLength);
+    }
     if rights == 0 {
         return Answer::Refused(Refusal::OutOfRange);
     }

@@ -9,11 +9,14 @@ use calls::Moved;
 use calls::ObjectCall;
 use calls::Outcome;
 use calls::Refusal;
+use calls::STORE_WORDS;
 use calls::admits;
 use calls::caller_of;
 use calls::replies::answered;
 use calls::replies::put_domain;
 use calls::replies::put_estate;
+use calls::replies::stays;
+use calls::replies::unaltered;
 use create_call::obj_create;
 use domain_calls::apd_delete;
 use domain_calls::apd_get;
@@ -32,19 +35,19 @@ use state::State;
 use state::Table;
 ghost use mathlib.Core.Path.{_≡_};
 ghost use Prim.Native.Nat.{_<_};
-ghost use lib.ListN.{length};
 ghost use Rattle.calls.specs.Step.{world, result, step, unchecked};
 ghost use Rattle.calls.specs.Parts.{Alters, Moves};
 
-// Any call on objects by domain d.
-pub fn object_call(
+// A call on objects by domain d, which is known.
+fn known_call(
     t: Table,
     x: Accounts,
     store: &mut [u64],
-    d: u64,
+    d: usize,
     f: Frame,
     call: ObjectCall,
 ) -> Altered
+    requires { ⌜ d < 4 ⌝ }
     ensures { λ r. ⌜ Alters t x d f (now (store .entry)) call r (now (store .exit)) ⌝ }
 {
     match call {
@@ -53,7 +56,7 @@ pub fn object_call(
             pages,
             password,
             account,
-        } => return obj_create(t, x, store, d, page, pages, password, account),
+        } => return obj_create(t, x, store, d as u64, page, pages, password, account),
         ObjectCall::Delete { base } => return obj_delete(t, store, f, base),
         ObjectCall::AddPassword {
             base,
@@ -76,10 +79,31 @@ pub fn object_call(
     }
 }
 
+// Any call on objects by domain d, with its frame.
+pub fn object_call(
+    t: Table,
+    x: Accounts,
+    store: &mut [u64],
+    d: u64,
+    f: Frame,
+    call: ObjectCall,
+) -> Altered
+    ensures { λ r. ⌜ Alters t x d f (now (store .entry)) call r (now (store .exit)) ⌝ }
+{
+    let caller = caller_of(store.len(), d);
+    match caller {
+        Caller::Known(k) => return known_call(t, x, store, k, f, call),
+        Caller::Refused(why) => return unaltered(t, why),
+    }
+}
+
 // Any call on the caller's domain.
 pub fn domain_call(t: Table, store: &[u64], m: Domain, call: DomainCall) -> Moved
     ensures { λ r. ⌜ Moves t m (now (store .entry)) call r ⌝ }
 {
+    if store.len() != STORE_WORDS {
+        return stays(m, Refusal::StoreLength);
+    }
     match call {
         DomainCall::Insert { slot, list } => return apd_insert(t, m, slot, list),
         DomainCall::Remove { slot } => return apd_delete(m, slot),
@@ -90,9 +114,9 @@ pub fn domain_call(t: Table, store: &[u64], m: Domain, call: DomainCall) -> Move
     }
 }
 
-// A call of domain d, behind checks 2 to 4.
+// A call of domain d, behind checks 3 and 4.
 fn carried_out(s: State, store: &mut [u64], d: usize, call: Call) -> Outcome
-    requires { ⌜ (length (now store) ≡ 8192) × (d < 4) ⌝ }
+    requires { ⌜ d < 4 ⌝ }
     ensures { λ r. ⌜ result r (now (store .exit)) ≡ unchecked (world s (now (store .entry))) d call ⌝ }
 {
     let t = s.table;

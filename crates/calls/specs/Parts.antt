@@ -73,20 +73,24 @@ withAltered s r = answeredWith (withEstate s (r .place) (r .estate)) (r .answer)
 abbrev pub withMoved : State → ℕ → Moved → Outcome
 withMoved s d r = record { answer = r .answer; fields = r .fields; state = withDomain s d (r .domain) }
 
--- AN ACCESS, by a table and the caller's frame: its answer, and the words after it; the state stays as it is
+-- AN ACCESS, by a table and the caller's frame: its answer, and the words after it, for any store and any domain that has this frame; the state
+-- stays as it is
 abbrev pub Answers : Table → Frame → List ℕ → Access → Answer → List ℕ → Type 0
 Answers t f words c a words′ =
-    (s : State) (d : ℕ) → Entered words d → s .table ≡ t → domainAt s d .active ≡ f
+    (s : State) (d : ℕ) → d < 4 → s .table ≡ t → domainAt s d .active ≡ f
     → result (answeredWith s a) words′ ≡ unchecked (world s words) d (OnStore c)
 
--- A CALL ON OBJECTS, by a table, the accounts, the caller and its frame: its answer beside an estate, and the words after it
-abbrev pub Alters : Table → Accounts → ℕ → Frame → List ℕ → ObjectCall → Altered → List ℕ → Type 0
-Alters t x d f words c r words′ =
-    (s : State) → Entered words d → s .table ≡ t → s .accounts ≡ x → domainAt s d .active ≡ f
-    → result (withAltered s r) words′ ≡ unchecked (world s words) d (OnObject c)
+-- A CALL ON OBJECTS, by a table, the accounts, the caller and its frame: its answer beside an estate, and the words after it, for any store and
+-- any caller; that of a domain above 3 has no frame to agree with
+pub record Alters (t : Table) (x : Accounts) (d : ℕ) (f : Frame) (words : List ℕ) (c : ObjectCall) (r : Altered) (words′ : List ℕ) : Type 0 where
+  pub does : (s : State) → s .table ≡ t → s .accounts ≡ x → (d < 4 → domainAt s d .active ≡ f)
+      → result (withAltered s r) words′ ≡ unchecked (world s words) d (OnObject c)
+  -- the estate is one of the four; a refused call hands back the first, as it is
+  pub place : r .place < 4
+  pub refused : (why : Refusal) → r .answer ≡ Answer·Refused why → r ≡ unaltered t why
 
--- A CALL ON THE CALLER'S DOMAIN, by a table and that domain: its answer beside the domain
+-- A CALL ON THE CALLER'S DOMAIN, by a table and that domain: its answer beside the domain, for any store
 abbrev pub Moves : Table → Domain → List ℕ → DomainCall → Moved → Type 0
 Moves t m words c r =
-    (s : State) (d : ℕ) → Entered words d → s .table ≡ t → domainAt s d ≡ m
+    (s : State) (d : ℕ) → d < 4 → s .table ≡ t → domainAt s d ≡ m
     → result (withMoved s d r) words ≡ unchecked (world s words) d (OnDomain c)

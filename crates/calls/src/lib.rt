@@ -78,6 +78,9 @@ pub struct Entries {
     pub fourth: u64,
 }
 
+// How many words the store has.
+pub const STORE_WORDS: usize = 8192;
+
 // How many numbers a boot is given: the home passwords of the domains, the limits of the accounts, then for each domain its home account and
 // its set.
 pub const BOOT_NUMBERS: usize = 16;
@@ -141,7 +144,7 @@ pub enum Caller {
 pub fn caller_of(words: usize, d: u64) -> Caller
     ensures { λ r. ⌜ r ≡ callerOf words d ⌝ }
 {
-    if words != 8192 {
+    if words != STORE_WORDS {
         return Caller::Refused(Refusal::StoreLength);
     }
     if 4 <= d {
@@ -154,5 +157,5 @@ pub fn caller_of(words: usize, d: u64) -> Caller
 pub fn admits(s: State, store: &[u64]) -> bool
     ensures { λ r. ⌜ r ≡ admitted (world s (now (store .entry))) ⌝ }
 {
-    (store.len() != 8192) | sound(s)
+    (store.len() != STORE_WORDS) | sound(s)
 }

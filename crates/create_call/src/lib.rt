@@ -2,6 +2,7 @@
 use calls::Altered;
 use calls::Answer;
 use calls::Refusal;
+use calls::STORE_WORDS;
 use calls::replies::unaltered;
 use calls::words::zero_words;
 use pages::in_set;
@@ -87,6 +88,9 @@ pub fn obj_create(
 ) -> Altered
     ensures { λ r. ⌜ ((f : Slots) → Alters t x d f (now (store .entry)) (Create page pages password account) r (now (store .exit))) ⌝ }
 {
+    if store.len() != STORE_WORDS {
+        return unaltered(t, Refusal::StoreLength);
+    }
     if 4 <= d {
         return unaltered(t, Refusal::NoDomain);
     }

@@ -19,6 +19,7 @@ ghost use mathlib.Core.Bool.{cond, not, _&&_};
 ghost use mathlib.Core.List.{List};
 ghost use Prim.Native.Nat.{ℕ, _<_};
 ghost use lib.Dec.{leb, ltb};
+ghost use lib.ListN.{length};
 ghost use Rattle.state.specs.Places.{slotAt};
 ghost use Rattle.state.specs.Update.{withActive};
 ghost use Rattle.state.specs.declared.Table.{Table as Objects};
@@ -44,7 +45,7 @@ fn unlocked_at(f: Frame, slot: u64) -> bool
 
 // IN: puts a Clist capability in at a slot.
 pub fn apd_insert(t: Table, m: Domain, slot: u64, list: Presented) -> Moved
-    ensures { λ r. ⌜ ((words : List ℕ) → Moves t m words (Insert slot list) r) ⌝ }
+    ensures { λ r. ⌜ ((words : List ℕ) → length words ≡ 8192 → Moves t m words (Insert slot list) r) ⌝ }
 {
     if 8 <= slot {
         return stays(m, Refusal::OutOfRange);
@@ -74,7 +75,7 @@ pub fn apd_insert(t: Table, m: Domain, slot: u64, list: Presented) -> Moved
 
 // RM: takes a slot out.
 pub fn apd_delete(m: Domain, slot: u64) -> Moved
-    ensures { λ r. ⌜ ((t : Objects) (words : List ℕ) → Moves t m words (Remove slot) r) ⌝ }
+    ensures { λ r. ⌜ ((t : Objects) (words : List ℕ) → length words ≡ 8192 → Moves t m words (Remove slot) r) ⌝ }
 {
     if 8 <= slot {
         return stays(m, Refusal::OutOfRange);
@@ -135,7 +136,7 @@ fn frame_fields(f: Frame) -> Fields
 
 // GT: the slots and the locks.
 pub fn apd_get(m: Domain) -> Moved
-    ensures { λ r. ⌜ ((t : Objects) (words : List ℕ) → Moves t m words Get r) ⌝ }
+    ensures { λ r. ⌜ ((t : Objects) (words : List ℕ) → length words ≡ 8192 → Moves t m words Get r) ⌝ }
 {
     let f = m.active;
     Moved {
@@ -147,7 +148,7 @@ pub fn apd_get(m: Domain) -> Moved
 
 // LO: locks a slot and all before it, or with 255 the whole domain.
 pub fn apd_lock(m: Domain, slot: u64) -> Moved
-    ensures { λ r. ⌜ ((t : Objects) (words : List ℕ) → Moves t m words (Lock slot) r) ⌝ }
+    ensures { λ r. ⌜ ((t : Objects) (words : List ℕ) → length words ≡ 8192 → Moves t m words (Lock slot) r) ⌝ }
 {
     let f = m.active;
     if slot == 255 {

@@ -1,6 +1,7 @@
 // The calls on an object that stands: DL, AP and DP. Each hands back its answer beside the estate that it changed.
 use calls::Altered;
 use calls::Refusal;
+use calls::STORE_WORDS;
 use calls::replies::becomes;
 use calls::replies::goes;
 use calls::replies::unaltered;
@@ -16,7 +17,7 @@ use state::tables::object_based;
 use updates::objects::add_password;
 use updates::objects::drop_password;
 ghost use mathlib.Core.Path.{_≡_};
-ghost use Prim.Native.Nat.{ℕ};
+ghost use Prim.Native.Nat.{ℕ, _<_};
 ghost use Rattle.state.specs.declared.Accounts.{Accounts as Limits};
 ghost use Rattle.calls.specs.Rules.{inRange};
 ghost use Rattle.calls.specs.Parts.{Alters};
@@ -25,8 +26,11 @@ ghost use Rattle.calls.specs.declared.ObjectCall.the-variants.{Delete, AddPassw
 
 // DL: removes an object; those behind it close the gap.
 pub fn obj_delete(t: Table, store: &[u64], f: Frame, base: u64) -> Altered
-    ensures { λ r. ⌜ ((u : Limits) (d : ℕ) → Alters t u d f (now (store .entry)) (Delete base) r (now (store .entry))) ⌝ }
+    ensures { λ r. ⌜ ((u : Limits) (d : ℕ) → d < 4 → Alters t u d f (now (store .entry)) (Delete base) r (now (store .entry))) ⌝ }
 {
+    if store.len() != STORE_WORDS {
+        return unaltered(t, Refusal::StoreLength);
+    }
     if 128 <= base {
         return unaltered(t, Refusal::OutOfRange);
     }
@@ -52,8 +56,11 @@ pub fn obj_passwd_add(
     password: u64,
     mode: u64,
 ) -> Altered
-    ensures { λ r. ⌜ ((u : Limits) (d : ℕ) → Alters t u d f (now (store .entry)) (AddPassword base password mode) r (now (store .entry))) ⌝ }
+    ensures { λ r. ⌜ ((u : Limits) (d : ℕ) → d < 4 → Alters t u d f (now (store .entry)) (AddPassword base password mode) r (now (store .entry))) ⌝ }
 {
+    if store.len() != STORE_WORDS {
+        return unaltered(t, Refusal::StoreLength);
+    }
     if !add_in_range(base, password, mode) {
         return unaltered(t, Refusal::OutOfRange);
     }
@@ -75,8 +82,11 @@ pub fn obj_passwd_add(
 
 // DP: drops a password of an object, or the registration that has it.
 pub fn obj_passwd_drop(t: Table, store: &[u64], f: Frame, base: u64, password: u64) -> Altered
-    ensures { λ r. ⌜ ((u : Limits) (d : ℕ) → Alters t u d f (now (store .entry)) (DropPassword base password) r (now (store .entry))) ⌝ }
+    ensures { λ r. ⌜ ((u : Limits) (d : ℕ) → d < 4 → Alters t u d f (now (store .entry)) (DropPassword base password) r (now (store .entry))) ⌝ }
 {
+    if store.len() != STORE_WORDS {
+        return unaltered(t, Refusal::StoreLength);
+    }
     if 128 <= base {
         return unaltered(t, Refusal::OutOfRange);
     }

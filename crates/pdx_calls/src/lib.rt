@@ -1,6 +1,7 @@
 // The calls into and out of a PDX procedure, CA and RT: each hands back its answer beside the caller's domain.
 use calls::Moved;
 use calls::Refusal;
+use calls::STORE_WORDS;
 use calls::replies::moved;
 use calls::replies::stays;
 use judge::Judgement;
@@ -21,6 +22,7 @@ ghost use mathlib.Core.Bool.{not, _||_};
 ghost use mathlib.Core.List.{List};
 ghost use Prim.Native.Nat.{ℕ, _<_};
 ghost use lib.Dec.{leb, ltb, eqb};
+ghost use lib.ListN.{length};
 ghost use Rattle.state.specs.Places.{entryAt};
 ghost use Rattle.state.specs.declared.Table.{Table as Objects};
 ghost use Rattle.calls.specs.Arguments.{isEntry};
@@ -71,6 +73,9 @@ fn entered(choice: u64, f: Frame, o: Object) -> Frame
 pub fn pdx_call(t: Table, store: &[u64], m: Domain, entry: u64, choice: u64) -> Moved
     ensures { λ r. ⌜ Moves t m (now (store .entry)) (PdxCall entry choice) r ⌝ }
 {
+    if store.len() != STORE_WORDS {
+        return stays(m, Refusal::StoreLength);
+    }
     if 8192 <= entry {
         return stays(m, Refusal::OutOfRange);
     }
@@ -99,7 +104,7 @@ pub fn pdx_call(t: Table, store: &[u64], m: Domain, entry: u64, choice: u64) -> 
 
 // RT: returns from the procedure entered last.
 pub fn pdx_return(m: Domain) -> Moved
-    ensures { λ r. ⌜ ((t : Objects) (words : List ℕ) → Moves t m words PdxReturn r) ⌝ }
+    ensures { λ r. ⌜ ((t : Objects) (words : List ℕ) → length words ≡ 8192 → Moves t m words PdxReturn r) ⌝ }
 {
     if m.depth == 0 {
         return stays(m, Refusal::Missing);

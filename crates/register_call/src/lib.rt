@@ -3,6 +3,7 @@ use calls::Altered;
 use calls::Entries;
 use calls::Presented;
 use calls::Refusal;
+use calls::STORE_WORDS;
 use calls::replies::becomes;
 use calls::replies::unaltered;
 use clists::live;
@@ -128,8 +129,11 @@ pub fn obj_cre_pdx(
     list: Presented,
     entries: Entries,
 ) -> Altered
-    ensures { λ r. ⌜ ((u : Limits) (d : ℕ) → Alters t u d f (now (store .entry)) (Register base password list entries) r (now (store .entry))) ⌝ }
+    ensures { λ r. ⌜ ((u : Limits) (d : ℕ) → d < 4 → Alters t u d f (now (store .entry)) (Register base password list entries) r (now (store .entry))) ⌝ }
 {
+    if store.len() != STORE_WORDS {
+        return unaltered(t, Refusal::StoreLength);
+    }
     if !register_in_range(base, password, list, entries) {
         return unaltered(t, Refusal::OutOfRange);
     }

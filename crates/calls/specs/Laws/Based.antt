@@ -4,7 +4,9 @@ use mathlib.Core.Path.{_≡_, refl}
 use mathlib.Core.Bool.{true}
 use mathlib.Core.List.{List, [], _∷_}
 use mathlib.Core.Option.{Option, none, some}
+use native.Mathlib.Omega.{arith}
 use lib.Dec.{ltb}
+use borrow.Author.Tests.{ltb-true}
 use Rattle.state.specs.Places.{noAccounts}
 use Rattle.state.specs.declared.Estate.{Estate}
 use Rattle.state.specs.declared.Table.{Table}
@@ -20,7 +22,7 @@ use Rattle.calls.specs.Answers.{noFields}
 use Rattle.calls.specs.Changes.{estate}
 use Rattle.calls.specs.Rules.{rule, inRange, unlocked, wanted, presented, value, fields, late, changes}
 use Rattle.calls.specs.Step.{world}
-use Rattle.calls.specs.Parts.{unaltered, altered, Alters}
+use Rattle.calls.specs.Parts.{Entered, unaltered, altered, Alters}
 use Rattle.calls.specs.Laws.Parts.{parts, viewOf, alters-late, alters-done}
 use Rattle.calls.specs.declared.Call.the-variants.{OnObject}
 use Rattle.calls.specs.declared.ObjectCall.{ObjectCall}
@@ -50,7 +52,7 @@ pub record Sees (t : Table) (words : List ℕ) (c : ObjectCall) (b : ℕ) (j : J
   pub found : v .found ≡ based t words b j
   pub live : v .live ≡ passes t (presented (OnObject c))
 
-module _ (t : Table) (x : Accounts) (d : ℕ) (f : Frame) (words : List ℕ) (c : ObjectCall) {b r : ℕ} {a j : Judgement}
+module _ (t : Table) (x : Accounts) (d : ℕ) (f : Frame) (words : List ℕ) (c : ObjectCall) {b r : ℕ} {a j : Judgement} (e : Entered words d)
     (w : wanted (OnObject c) ≡ rights (Base b) r) (n : inRange (OnObject c) ≡ true)
     (u : unlocked (OnObject c) f ≡ true) (p : a ≡ judged t words f (Base b) r) (g : a ≡ j) where
   sees : (m : Domain) → m .active ≡ f → Sees t words c b j (viewOf t x words d m (OnObject c))
@@ -63,11 +65,11 @@ module _ (t : Table) (x : Accounts) (d : ℕ) (f : Frame) (words : List ℕ) (c 
   -- refused by the judgement, or behind it
   pub based-late : {y : Altered} {why : Refusal} → ((v : View) → Sees t words c b j v → firstFailing (late d (OnObject c) v) ≡ some why) → y ≡ unaltered t why
       → Alters t x d f words c y words
-  based-late l h = alters-late t x d f words c n u (λ m q. l _ (sees m q)) h
+  based-late l h = alters-late t x d f words c e n u (λ m q. l _ (sees m q)) h
 
   -- done: its estate becomes another
   pub based-done : {y : Altered} (z : Estate) → ltb b 128 ≡ true → ((v : View) → Sees t words c b j v → firstFailing (late d (OnObject c) v) ≡ none)
       → ((v : View) → Sees t words c b j v → changes d (OnObject c) v ≡ estate (b / 32) z ∷ []) → y ≡ altered t b z → Alters t x d f words c y words
   based-done z i l k h =
-      alters-done t x d f words c n u (λ m q. l _ (sees m q))
-      (λ e m q s. rw (h, i, k _ (sees m q), plain c .zero, plain c .bare))
+      alters-done t x d f words c e (rw (h, i)) (rw (h, i) (let m = ltb-true b 128 i in omega arith)) n u (λ m q. l _ (sees m q))
+      (λ m q s. rw (h, i, k _ (sees m q), plain c .zero, plain c .bare))

@@ -10,4 +10,4 @@ unfolding rule inRange unlocked late changes
 apd-get-spec =
     tie.close
     (tie.spec (λ c κs. search needs)
-    (λ c t words. moves-told _ _ _ _ refl refl (λ d. refl) (λ d. refl) (λ d. c .frame-fields .ensures) refl (λ d. refl)))
+    (λ c t words long. moves-told _ _ _ _ long refl refl (λ d. refl) (λ d. refl) (λ d. c .frame-fields .ensures) refl (λ d. refl)))

@@ -13,8 +13,8 @@ unfolding rule inRange unlocked late changes
 pdx-return-spec =
     tie.close
     (tie.spec (λ c κs. search needs)
-    (λ c t words. moves-late _ _ _ _ refl refl (λ d. rw (ap (ltb 0) (c .before .if1 .taken))) (c .stays .ensures))
+    (λ c t words long. moves-late _ _ _ _ long refl refl (λ d. rw (ap (ltb 0) (c .before .if1 .taken))) (c .stays .ensures))
     (λ c κs. search needs) (λ c κs. search needs)
-    (λ c t words.
-    moves-done _ _ _ _ refl refl (λ d. rw (lt-ltb _ _ (pos-of-ne-zero (c .before .before .if1 .left))))
+    (λ c t words long.
+    moves-done _ _ _ _ long refl refl (λ d. rw (lt-ltb _ _ (pos-of-ne-zero (c .before .before .if1 .left))))
     (λ d s. rw (c .moved .ensures, c .before .restore-domain .ensures))))
