@@ -1,11 +1,10 @@
 -- What a line asks for, and how a line of each kind is answered and printed.
-use Prim.Native.Nat.{ℕ, _+_, _<_, _≤_}
+use Prim.Native.Nat.{ℕ, _<_}
 use mathlib.Core.Path.{_≡_, refl, sym, _∙_}
 use mathlib.Core.List.{List, [], _∷_}
 use native.Mathlib.Omega.{arith}
 use lib.ListN.{length, replicate, length-replicate}
-use lib.Seq.{set-out, set-getD}
-use Rattle.state.specs.Places.{noEstate, estateAt, domainAt}
+use Rattle.state.specs.Places.{domainAt}
 use Rattle.state.specs.Update.{withEstate, withDomain}
 use Rattle.state.specs.declared.Table.{Table}
 use Rattle.state.specs.declared.Frame.{Frame}
@@ -16,7 +15,7 @@ use Rattle.calls.specs.Answers.{numberOf, valueOf, refusalNumber, valuesFrom}
 use Rattle.calls.specs.View.{World}
 use Rattle.calls.specs.Step.{world, result, unchecked}
 use Rattle.calls.specs.Boot.{boot}
-use Rattle.calls.specs.Parts.{callerOf, Entered, Answers, Alters, Moves}
+use Rattle.calls.specs.Parts.{callerOf, Answers, Alters, Moves}
 use Rattle.calls.specs.Laws.Returns.{by-caller, caller-known}
 use Rattle.calls.specs.declared.Call.{Call as Asked}
 use Rattle.calls.specs.declared.Call.the-variants.{OnStore, OnObject, OnDomain}
@@ -34,7 +33,7 @@ use Rattle.lines.specs.declared.Line.{Line}
 use Rattle.lines.specs.declared.Line.the-variants.{Unreadable, Boot, Call}
 use Rattle.text.specs.Answer.{printed, printedEnd}
 use Rattle.replies.specs.Reply.{stateAfter, reply}
-use Rattle.replies.specs.Told.{told, printed-told, answer-told}
+use Rattle.replies.specs.Told.{Told, values-few}
 use Rattle.replies.specs.declared.Kind.{Kind}
 use Rattle.replies.specs.declared.Kind.the-variants as kind
 use Rattle.replies.specs.declared.NewEstate.{NewEstate}
@@ -50,13 +49,13 @@ IsKind (kind.Boot d) n l = l ≡ Boot d
 -- an access, and a call on objects, answered and printed, in every state with these parts
 abbrev pub accessTold : Table → Frame → Access → ℕ → List ℕ → List ℕ → List ℕ → ℕ → List ℕ → ℕ → Type 0
 accessTold t f c number words words′ out at out′ at′ =
-    (s : State) (d : ℕ) → Entered words d → s .table ≡ t → domainAt s d .active ≡ f
-    → told number out at out′ at′ (world s words′) (reply unchecked (world s words) (callBy d (OnStore c)))
+    (s : State) (d : ℕ) → d < 4 → s .table ≡ t → domainAt s d .active ≡ f
+    → Told number out at out′ at′ (world s words′) (reply unchecked (world s words) (callBy d (OnStore c)))
 
 abbrev pub objectTold : Table → Accounts → ℕ → Frame → ObjectCall → ℕ → List ℕ → List ℕ → List ℕ → ℕ → List ℕ → NewEstate → Type 0
 objectTold t x d f c number words words′ out at out′ r =
-    (s : State) → Entered words d → s .table ≡ t → s .accounts ≡ x → domainAt s d .active ≡ f
-    → told number out at out′ (r .at) (world (withEstate s (r .place) (r .estate)) words′) (reply unchecked (world s words) (callBy d (OnObject c)))
+    (s : State) → s .table ≡ t → s .accounts ≡ x → (d < 4 → domainAt s d .active ≡ f)
+    → Told number out at out′ (r .at) (world (withEstate s (r .place) (r .estate)) words′) (reply unchecked (world s words) (callBy d (OnObject c)))
 
 -- a line that is not readable is answered 1
 pub unread-kind : (n : ℕ) {l : Line} → l ≡ Unreadable → IsKind (kind.Known 1) n l
@@ -78,50 +77,39 @@ refused-kind n d c why h plan w k = rw (← by-caller (w .state) (w .words) d c 
 
 -- how the calls are printed
 pub access-told : (t : Table) (f : Frame) (c : Access) (a : Answer) (words words′ out : List ℕ) (at n : ℕ) {out′ : List ℕ} {at′ : ℕ}
-    → Answers t f words c a words′ → at + 273 ≤ length out
-    → out′ ≡ printed out at n (numberOf a) (valueOf a ∷ []) → at′ ≡ printedEnd out at n (numberOf a) (valueOf a ∷ [])
+    → Answers t f words c a words′ → out′ ≡ printed out at n (numberOf a) (valueOf a ∷ []) → at′ ≡ printedEnd out at n (numberOf a) (valueOf a ∷ [])
     → accessTold t f c n words words′ out at out′ at′
 unfolding reply
-access-told t f c a words words′ out at n g h p q s d e i j =
-    rw (← g s d e i j) (printed-told out at n (numberOf a) (valueOf a ∷ []) (world s words′) h (omega arith) p q)
+access-told t f c a words words′ out at n g p q s d e i j = rw (← g s d e i j) (record { text = p; end = q; world = refl; few = omega arith })
 
 pub object-told : (t : Table) (x : Accounts) (d : ℕ) (f : Frame) (c : ObjectCall) (r : Altered) (words words′ out : List ℕ) (at n : ℕ) {out′ : List ℕ} {at′ : ℕ}
-    → Alters t x d f words c r words′ → at + 273 ≤ length out
+    → Alters t x d f words c r words′
     → out′ ≡ printed out at n (numberOf (r .answer)) (valueOf (r .answer) ∷ []) → at′ ≡ printedEnd out at n (numberOf (r .answer)) (valueOf (r .answer) ∷ [])
     → objectTold t x d f c n words words′ out at out′ (record { place = r .place; estate = r .estate; at = at′ })
 unfolding reply
-object-told t x d f c r words words′ out at n g h p q s e i a j =
-    rw (← g s e i a j) (printed-told out at n (numberOf (r .answer)) (valueOf (r .answer) ∷ []) (world (withEstate s (r .place) (r .estate)) words′) h (omega arith) p q)
-
--- an estate past the last one changes nothing, and nor does the first one as it is
-pub object-past : (t : Table) (x : Accounts) (d : ℕ) (f : Frame) (c : ObjectCall) (n : ℕ) (words words′ out : List ℕ) (at : ℕ) (out′ : List ℕ) (r : NewEstate)
-    → length (t .estates) ≡ 4 → 4 ≤ r .place → objectTold t x d f c n words words′ out at out′ r
-    → objectTold t x d f c n words words′ out at out′ (record { place = 0; estate = estateAt t 0; at = r .at })
-object-past t x d f c n words words′ out at out′ r l b g s e i a j =
-    let k : withEstate s (r .place) (r .estate) ≡ s = rw (i, set-out (t .estates) (r .place) (r .estate) (omega arith)) in
-    let o : withEstate s 0 (estateAt t 0) ≡ s = rw (← i, set-getD (s .table .estates) 0 noEstate) in
-    rw o (rw k at (g s e i a j))
+object-told t x d f c r words words′ out at n g p q s i a j = rw (← g .does s i a j) (record { text = p; end = q; world = refl; few = omega arith })
 
 pub domain-told : (t : Table) (m : Domain) (c : DomainCall) (r : Moved) (words out : List ℕ) (at n : ℕ) {out′ : List ℕ} {at′ : ℕ}
-    → Moves t m words c r → length (r .fields .values) ≡ 11 → at + 273 ≤ length out
+    → Moves t m words c r → length (r .fields .values) ≡ 11
     → out′ ≡ printed out at n (numberOf (r .answer)) (valuesFrom (r .answer) (r .fields))
     → at′ ≡ printedEnd out at n (numberOf (r .answer)) (valuesFrom (r .answer) (r .fields))
-    → (s : State) (d : ℕ) → Entered words d → s .table ≡ t → domainAt s d ≡ m
-    → told n out at out′ at′ (world (withDomain s d (r .domain)) words) (reply unchecked (world s words) (callBy d (OnDomain c)))
+    → (s : State) (d : ℕ) → d < 4 → s .table ≡ t → domainAt s d ≡ m
+    → Told n out at out′ at′ (world (withDomain s d (r .domain)) words) (reply unchecked (world s words) (callBy d (OnDomain c)))
 unfolding reply
-domain-told t m c r words out at n g f h p q s d e i j =
-    rw (← g s d e i j) (answer-told (r .answer) (r .fields) (world (withDomain s d (r .domain)) words) out at n f h p q)
+domain-told t m c r words out at n g f p q s d e i j =
+    rw (← g s d e i j) (record { text = p; end = q; world = refl; few = values-few (r .answer) (r .fields) f })
 
 -- a boot, printed: a refused one keeps the state that stands
 pub boot-told : (s : State) (words : List ℕ) (d : ℕ) (plan : List ℕ) (o : Outcome) (words′ : List ℕ) (after : State) (out : List ℕ) (at n : ℕ) {out′ : List ℕ} {at′ : ℕ}
-    → result o words′ ≡ boot words d plan → stateAfter s (o .answer) (o .state) ≡ after → length (o .fields .values) ≡ 11 → at + 273 ≤ length out
+    → result o words′ ≡ boot words d plan → stateAfter s (o .answer) (o .state) ≡ after → length (o .fields .values) ≡ 11
     → out′ ≡ printed out at n (numberOf (o .answer)) (valuesFrom (o .answer) (o .fields))
     → at′ ≡ printedEnd out at n (numberOf (o .answer)) (valuesFrom (o .answer) (o .fields))
-    → told n out at out′ at′ (world after words′) (reply unchecked (world s words) (bootBy d plan))
+    → Told n out at out′ at′ (world after words′) (reply unchecked (world s words) (bootBy d plan))
 unfolding reply
-boot-told s words d plan o words′ after out at n e k f h p q = rw (← e, ← k) (answer-told (o .answer) (o .fields) (world (stateAfter s (o .answer) (o .state)) words′) out at n f h p q)
+boot-told s words d plan o words′ after out at n e k f p q =
+    rw (← e, ← k) (record { text = p; end = q; world = refl; few = values-few (o .answer) (o .fields) f })
 
 -- a line whose answer is known, printed
-pub known-told : (w : World) (l : Line) (plan : List ℕ) (a : ℕ) (out : List ℕ) (at n : ℕ) {out′ : List ℕ} {at′ : ℕ} → IsKind (kind.Known a) (length (w .words)) l → at + 273 ≤ length out
-    → out′ ≡ printed out at n a (0 ∷ []) → at′ ≡ printedEnd out at n a (0 ∷ []) → told n out at out′ at′ w (reply unchecked w (reads l plan))
-known-told w l plan a out at n k h p q = rw (k plan w refl) (printed-told out at n a (0 ∷ []) w h (omega arith) p q)
+pub known-told : (w : World) (l : Line) (plan : List ℕ) (a : ℕ) (out : List ℕ) (at n : ℕ) {out′ : List ℕ} {at′ : ℕ} → IsKind (kind.Known a) (length (w .words)) l
+    → out′ ≡ printed out at n a (0 ∷ []) → at′ ≡ printedEnd out at n a (0 ∷ []) → Told n out at out′ at′ w (reply unchecked w (reads l plan))
+known-told w l plan a out at n k p q = rw (k plan w refl) (record { text = p; end = q; world = refl; few = omega arith })

@@ -15,10 +15,12 @@ use Rattle.text.specs.Answer.{answerLine, printed, printedEnd}
 use Rattle.text.specs.Size.{up-to-end, answer-length}
 use Rattle.replies.specs.Reply.{Reply}
 
--- a reply printed at `at`: the text goes on by it, up to `at′` in the buffer, and its world stands
-abbrev pub told : ℕ → List ℕ → ℕ → List ℕ → ℕ → World → Reply → Type 0
-told number out at out′ at′ w a =
-    (take at′ out′ ≡ take at out ++ answerLine number (a .number) (a .values)) × (w ≡ a .world) × (at′ ≤ length out)
+-- A REPLY PRINTED AT `at`: the buffer after it, where its text ends, and the world that stands; without room for the line nothing is put
+pub record Told (number : ℕ) (out : List ℕ) (at : ℕ) (out′ : List ℕ) (at′ : ℕ) (w : World) (a : Reply) : Type 0 where
+  pub text : out′ ≡ printed out at number (a .number) (a .values)
+  pub end : at′ ≡ printedEnd out at number (a .number) (a .values)
+  pub world : w ≡ a .world
+  pub few : length (a .values) ≤ 11
 
 -- an answer printed where there is room for the longest: the text goes on by it
 pub told-text : (out : List ℕ) (at number answer : ℕ) (vs : List ℕ) {out′ : List ℕ} {at′ : ℕ} → at + 273 ≤ length out → length vs ≤ 11
@@ -34,10 +36,18 @@ told-end out at number answer vs {at′} h l e =
     let z : at′ ≡ at + length (answerLine number answer vs) = rw (e, le-leb (at + (42 + 21 * length vs)) (length out) k) in
     omega (arith, answer-length number answer vs)
 
--- a reply, printed
-pub printed-told : (out : List ℕ) (at n answer : ℕ) (vs : List ℕ) (w : World) {out′ : List ℕ} {at′ : ℕ} → at + 273 ≤ length out → length vs ≤ 11
-    → out′ ≡ printed out at n answer vs → at′ ≡ printedEnd out at n answer vs → told n out at out′ at′ w (record { number = answer; values = vs; world = w })
-printed-told out at n answer vs w h l p q = (told-text out at n answer vs h l p q, refl, told-end out at n answer vs h l q)
+-- where there is room for the longest answer the text goes on by this one, within the buffer
+pub record GoesOn (number : ℕ) (out : List ℕ) (at : ℕ) (out′ : List ℕ) (at′ : ℕ) (a : Reply) : Type 0 where
+  pub text : take at′ out′ ≡ take at out ++ answerLine number (a .number) (a .values)
+  pub within : at′ ≤ length out
+
+pub told-on : {number : ℕ} {out : List ℕ} {at : ℕ} {out′ : List ℕ} {at′ : ℕ} {w : World} {a : Reply} → Told number out at out′ at′ w a → at + 273 ≤ length out
+    → GoesOn number out at out′ at′ a
+told-on {number} {out} {at} {a = a} t h =
+    record {
+      text = told-text out at number (a .number) (a .values) h (t .few) (t .text) (t .end);
+      within = told-end out at number (a .number) (a .values) h (t .few) (t .end);
+    }
 
 -- what is put at the start of a buffer ends in it
 pub printed-within : (out : List ℕ) (number answer : ℕ) (vs : List ℕ) → printedEnd out 0 number answer vs ≤ length out
@@ -56,9 +66,3 @@ values-few a f h = go (eqb (f .count) 0)
     go : (b : Bool) → length (cond b (valueOf a ∷ []) (take (f .count) (f .values))) ≤ 11
     go true = omega arith
     go false = omega (arith, length-take (f .count) (f .values))
-
--- an answer with its fields, printed
-pub answer-told : (a : Answer) (f : Fields) (w : World) (out : List ℕ) (at n : ℕ) {out′ : List ℕ} {at′ : ℕ} → length (f .values) ≡ 11 → at + 273 ≤ length out
-    → out′ ≡ printed out at n (numberOf a) (valuesFrom a f) → at′ ≡ printedEnd out at n (numberOf a) (valuesFrom a f)
-    → told n out at out′ at′ w (record { number = numberOf a; values = valuesFrom a f; world = w })
-answer-told a f w out at n l h p q = printed-told out at n (numberOf a) (valuesFrom a f) w h (values-few a f l) p q

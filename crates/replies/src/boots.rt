@@ -1,16 +1,14 @@
-// A boot, answered where the longest answer has room.
+// A boot, answered into the buffer.
 use crate::NewState;
 use boot::boot;
 use calls::Answer;
 use calls::BOOT_NUMBERS;
 use state::State;
 use text::put_answer;
-ghost use Prim.Native.Nat.{_+_, _≤_};
-ghost use lib.ListN.{length};
 ghost use Rattle.calls.specs.Step.{world, unchecked};
 ghost use Rattle.lines.specs.Reading.{bootBy};
 ghost use Rattle.replies.specs.Reply.{reply};
-ghost use Rattle.replies.specs.Told.{told};
+ghost use Rattle.replies.specs.Told.{Told};
 
 // A refused one leaves the state as it is.
 pub fn boot_line(
@@ -22,7 +20,7 @@ pub fn boot_line(
     out: &mut [u8],
     at: usize,
 ) -> NewState
-    ensures { λ r. ⌜ (at + 273 ≤ length (now (out .entry)) → told number (now (out .entry)) at (now (out .exit)) (r .at) (world (r .state) (now (store .exit))) (reply unchecked (world s (now (store .entry))) (bootBy d plan))) ⌝ }
+    ensures { λ r. ⌜ Told number (now (out .entry)) at (now (out .exit)) (r .at) (world (r .state) (now (store .exit))) (reply unchecked (world s (now (store .entry))) (bootBy d plan)) ⌝ }
 {
     let o = boot(store, d, plan);
     let answer = o.answer;

@@ -17,8 +17,7 @@ use text::answer_number;
 use text::answer_value;
 use text::put_line;
 ghost use mathlib.Core.Path.{_≡_};
-ghost use Prim.Native.Nat.{_+_, _<_, _≤_};
-ghost use lib.ListN.{length};
+ghost use Prim.Native.Nat.{_<_};
 ghost use Rattle.lines.specs.declared.Line.the-variants.{Call as Line·Call};
 ghost use Rattle.replies.specs.Kinds.{IsKind, accessTold, objectTold};
 
@@ -56,7 +55,7 @@ pub fn kind_of(words: usize, reading: Line) -> Kind
     }
 }
 
-// An access, answered where the longest answer has room: where the text ends.
+// An access, answered at `at`: where the text ends.
 pub fn access_line(
     t: Table,
     store: &mut [u64],
@@ -66,14 +65,13 @@ pub fn access_line(
     out: &mut [u8],
     at: usize,
 ) -> usize
-    ensures { λ r. ⌜ (at + 273 ≤ length (now (out .entry)) → accessTold t f call number (now (store .entry)) (now (store .exit)) (now (out .entry)) at (now (out .exit)) r) ⌝ }
+    ensures { λ r. ⌜ accessTold t f call number (now (store .entry)) (now (store .exit)) (now (out .entry)) at (now (out .exit)) r ⌝ }
 {
     let a = access(t, store, f, call);
     put_line(out, at, number, answer_number(a), &[answer_value(a)])
 }
 
-// A call on objects by domain d, answered where the longest answer has room. A place past the last changes nothing: the first estate,
-// as it is, stands for it.
+// A call on objects by domain d, answered at `at`.
 pub fn object_line(
     t: Table,
     x: Accounts,
@@ -85,23 +83,14 @@ pub fn object_line(
     out: &mut [u8],
     at: usize,
 ) -> NewEstate
-    ensures { λ r. ⌜ (at + 273 ≤ length (now (out .entry)) → objectTold t x d f call number (now (store .entry)) (now (store .exit)) (now (out .entry)) at (now (out .exit)) r) × (r .place < 4) ⌝ }
+    ensures { λ r. ⌜ objectTold t x d f call number (now (store .entry)) (now (store .exit)) (now (out .entry)) at (now (out .exit)) r × (r .place < 4) ⌝ }
 {
     let r = object_call(t, x, store, d as u64, f, call);
     let a = r.answer;
     let end = put_line(out, at, number, answer_number(a), &[answer_value(a)]);
-    let place = r.place;
-    if 4 <= place {
-        let estate = t.estates[0];
-        return NewEstate {
-            place: 0,
-            estate,
-            at: end,
-        };
-    }
     let estate = r.estate;
     NewEstate {
-        place,
+        place: r.place,
         estate,
         at: end,
     }

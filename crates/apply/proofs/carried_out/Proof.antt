@@ -10,12 +10,10 @@ carried-out-spec =
     (λ c. search needs) (λ c κs. search needs) (λ c κs. search needs) (λ c. search needs)
     (λ c.
     let p = c .before .before .before .before .before .before .before .before .before .before .before .before .before .pre in
-    rw (c .before .before .before .before .before .before .call .given .1, c .answered .ensures) (c .before .before .before .access .ensures _ _ (record { long = p .0; known = p .1 }) refl refl))
+    rw (c .before .before .before .before .before .before .call .given .1, c .answered .ensures) (c .before .before .before .access .ensures _ _ p refl refl))
     (λ c. search needs) (λ c κs. search needs) (λ c κs. search needs) (λ c. search needs)
-    (λ c.
-    let p = c .before .before .before .before .before .before .before .before .before .before .before .before .before .pre in
-    rw (c .before .before .before .before .before .before .call2 .given .1, c .put-estate .ensures) (c .before .before .before .object-call .ensures _ (record { long = p .0; known = p .1 }) refl refl refl))
+    (λ c. rw (c .before .before .before .before .before .before .call2 .given .1, c .put-estate .ensures) (c .before .before .before .object-call .ensures .does _ refl refl (λ l. refl)))
     (λ c. search needs) (λ c κs. search needs) (λ c κs. search needs) (λ c. search needs)
     (λ c.
     let p = c .before .before .before .before .before .before .before .before .before .before .before .pre in
-    rw (c .before .before .before .before .call3 .given .1, c .put-domain .ensures) (c .before .domain-call .ensures _ _ (record { long = p .0; known = p .1 }) refl refl)))
+    rw (c .before .before .before .before .call3 .given .1, c .put-domain .ensures) (c .before .domain-call .ensures _ _ p refl refl)))

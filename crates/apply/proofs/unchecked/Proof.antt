@@ -11,7 +11,7 @@ unchecked-spec =
     (λ c κs.
     let a = c .before .before .before .before .before .before .args in
     let (e, q) = caller-known (a .store .now) (a .d) _ (sym (c .before .before .before .before .caller-of .ensures) ∙ c .before .before .caller .given .1) in
-    (e .long, rw q (e .known)))
+    rw q (e .known))
     (λ c. search needs)
     (λ c.
     let a = c .before .before .before .before .before .before .before .before .before .args in

@@ -60,7 +60,7 @@ feed-piece-spec =
     let o = k .before .before .before .before .before .before .before .before .before .before .before .loop in
     let q = rw (c .before .before .before .before .before .before .kind .given .1) at (k .kind-of .ensures) in
     let r = c .before .before .put-line in
-    stands-told (k .before .before .before .read-one .result) _ (k .before .before .before .before .before .before .before .before .before .before .before .loop .inv) (k .before .before .before .before .before .before .before .before .find .ensures .0) (k .before .before .before .before .before .before .before .if2 .left) (k .before .before .before .read-one .ensures) (k .before .next-number .ensures) (k .before .before .before .read-one .kept .0) refl (known-told (world (record { table = o .table; domains = o .domains; accounts = o .accounts }) (o .store)) (k .before .before .before .read-one .result) _ _ (o .out) (o .at) (o .number) q (room (k .before .before .before .before .before .before .before .before .before)) (r .ensures .0) (r .ensures .1)) refl (r .kept .0))
+    stands-told (k .before .before .before .read-one .result) _ (k .before .before .before .before .before .before .before .before .before .before .before .loop .inv) (k .before .before .before .before .before .before .before .before .find .ensures .0) (k .before .before .before .before .before .before .before .if2 .left) (k .before .before .before .read-one .ensures) (k .before .next-number .ensures) (k .before .before .before .read-one .kept .0) refl (room (k .before .before .before .before .before .before .before .before .before)) (known-told (world (record { table = o .table; domains = o .domains; accounts = o .accounts }) (o .store)) (k .before .before .before .read-one .result) _ _ (o .out) (o .at) (o .number) q (r .ensures .0) (r .ensures .1)) refl (r .kept .0))
     (λ c. search needs)
     (λ c. let q = rw (c .before .kind2 .given .1) at (c .before .before .before .kind-of .ensures) in search (needs, q .1))
     (λ c. let q = rw (c .before .kind2 .given .1) at (c .before .before .before .kind-of .ensures) in search (needs, q .1))
@@ -71,7 +71,7 @@ feed-piece-spec =
     let o = k .before .before .before .before .before .before .before .before .before .before .before .loop in
     let q = rw (c .before .before .before .before .before .before .before .before .before .kind2 .given .1) at (k .kind-of .ensures) in
     let r = c .before .before .before .before .access-line in
-    stands-told (k .before .before .before .read-one .result) _ (k .before .before .before .before .before .before .before .before .before .before .before .loop .inv) (k .before .before .before .before .before .before .before .before .find .ensures .0) (k .before .before .before .before .before .before .before .if2 .left) (k .before .before .before .read-one .ensures) (k .before .next-number .ensures) (k .before .before .before .read-one .kept .0) (q .2) (r .ensures (room (k .before .before .before .before .before .before .before .before .before)) (record { table = o .table; domains = o .domains; accounts = o .accounts }) _ (record { long = q .0; known = q .1 }) refl refl) (r .kept .1 .0) (r .kept .1 .1 .1 .1 .1 .0))
+    stands-told (k .before .before .before .read-one .result) _ (k .before .before .before .before .before .before .before .before .before .before .before .loop .inv) (k .before .before .before .before .before .before .before .before .find .ensures .0) (k .before .before .before .before .before .before .before .if2 .left) (k .before .before .before .read-one .ensures) (k .before .next-number .ensures) (k .before .before .before .read-one .kept .0) (q .2) (room (k .before .before .before .before .before .before .before .before .before)) (r .ensures (record { table = o .table; domains = o .domains; accounts = o .accounts }) _ (q .1) refl refl) (r .kept .1 .0) (r .kept .1 .1 .1 .1 .1 .0))
     (λ c. search needs)
     (λ c. let q = rw (c .before .kind3 .given .1) at (c .before .before .before .kind-of .ensures) in search (needs, q .1))
     (λ c. let q = rw (c .before .kind3 .given .1) at (c .before .before .before .kind-of .ensures) in search (needs, q .1))
@@ -84,7 +84,7 @@ feed-piece-spec =
     let o = k .before .before .before .before .before .before .before .before .before .before .before .loop in
     let q = rw (c .before .before .before .before .before .before .before .before .before .before .kind3 .given .1) at (k .kind-of .ensures) in
     let r = c .before .before .before .before .before .object-line in
-    stands-told (k .before .before .before .read-one .result) _ (k .before .before .before .before .before .before .before .before .before .before .before .loop .inv) (k .before .before .before .before .before .before .before .before .find .ensures .0) (k .before .before .before .before .before .before .before .if2 .left) (k .before .before .before .read-one .ensures) (k .before .next-number .ensures) (k .before .before .before .read-one .kept .0) (q .2) (r .ensures .0 (room (k .before .before .before .before .before .before .before .before .before)) (record { table = o .table; domains = o .domains; accounts = o .accounts }) (record { long = q .0; known = q .1 }) refl refl refl) (r .kept .1 .1 .0) (r .kept .1 .1 .1 .1 .1 .1 .1 .0))
+    stands-told (k .before .before .before .read-one .result) _ (k .before .before .before .before .before .before .before .before .before .before .before .loop .inv) (k .before .before .before .before .before .before .before .before .find .ensures .0) (k .before .before .before .before .before .before .before .if2 .left) (k .before .before .before .read-one .ensures) (k .before .next-number .ensures) (k .before .before .before .read-one .kept .0) (q .2) (room (k .before .before .before .before .before .before .before .before .before)) (r .ensures .0 (record { table = o .table; domains = o .domains; accounts = o .accounts }) refl refl (λ l. refl)) (r .kept .1 .1 .0) (r .kept .1 .1 .1 .1 .1 .1 .1 .0))
     (λ c. search needs)
     (λ c. let q = rw (c .before .kind4 .given .1) at (c .before .before .before .kind-of .ensures) in search (needs, q .1))
     (λ c. let q = rw (c .before .kind4 .given .1) at (c .before .before .before .kind-of .ensures) in search (needs, q .1))
@@ -100,7 +100,7 @@ feed-piece-spec =
     let d = c .before .before .before .before .before .domain-call in
     let r = c .before .before .put-answer in
     let long : length (d .result .fields .values) ≡ 11 = simp length-map at (d .ok .1 .1 .1 .0 .1 .1 .1 .0 .1 .0 .1) in
-    stands-told (k .before .before .before .read-one .result) _ (k .before .before .before .before .before .before .before .before .before .before .before .loop .inv) (k .before .before .before .before .before .before .before .before .find .ensures .0) (k .before .before .before .before .before .before .before .if2 .left) (k .before .before .before .read-one .ensures) (k .before .next-number .ensures) (k .before .before .before .read-one .kept .0) (q .2) (domain-told (o .table) _ _ (d .result) (o .store) (o .out) (o .at) (o .number) (d .ensures) long (room (k .before .before .before .before .before .before .before .before .before)) (r .ensures .0) (r .ensures .1) (record { table = o .table; domains = o .domains; accounts = o .accounts }) _ (record { long = q .0; known = q .1 }) refl refl) refl (r .kept .0))
+    stands-told (k .before .before .before .read-one .result) _ (k .before .before .before .before .before .before .before .before .before .before .before .loop .inv) (k .before .before .before .before .before .before .before .before .find .ensures .0) (k .before .before .before .before .before .before .before .if2 .left) (k .before .before .before .read-one .ensures) (k .before .next-number .ensures) (k .before .before .before .read-one .kept .0) (q .2) (room (k .before .before .before .before .before .before .before .before .before)) (domain-told (o .table) _ _ (d .result) (o .store) (o .out) (o .at) (o .number) (d .ensures) long (r .ensures .0) (r .ensures .1) (record { table = o .table; domains = o .domains; accounts = o .accounts }) _ (q .1) refl refl) refl (r .kept .0))
     (λ c. search needs) (λ c κs. search needs) (λ c κs. search needs)
     (λ c. less (c .before .before .before .before .before .before .before .before .before .before .before .before .before .before .before .before .before .before .before .before .before .before))
     (λ c.
@@ -108,7 +108,7 @@ feed-piece-spec =
     let o = k .before .before .before .before .before .before .before .before .before .before .before .loop in
     let q = rw (c .before .before .before .before .before .before .before .before .before .before .before .before .before .kind5 .given .1) at (k .kind-of .ensures) in
     let r = c .before .before .before .before .before .before .before .before .boot-line in
-    stands-told (k .before .before .before .read-one .result) _ (k .before .before .before .before .before .before .before .before .before .before .before .loop .inv) (k .before .before .before .before .before .before .before .before .find .ensures .0) (k .before .before .before .before .before .before .before .if2 .left) (k .before .before .before .read-one .ensures) (k .before .next-number .ensures) (k .before .before .before .read-one .kept .0) q (rw (c .before .before .before .before .before .before .before .before .before .before .before .state-of .ensures) at (r .ensures (room (k .before .before .before .before .before .before .before .before .before)))) (r .kept .1 .0) (r .kept .1 .1 .1 .1 .1 .0))
+    stands-told (k .before .before .before .read-one .result) _ (k .before .before .before .before .before .before .before .before .before .before .before .loop .inv) (k .before .before .before .before .before .before .before .before .find .ensures .0) (k .before .before .before .before .before .before .before .if2 .left) (k .before .before .before .read-one .ensures) (k .before .next-number .ensures) (k .before .before .before .read-one .kept .0) q (room (k .before .before .before .before .before .before .before .before .before)) (rw (c .before .before .before .before .before .before .before .before .before .before .before .state-of .ensures) at (r .ensures)) (r .kept .1 .0) (r .kept .1 .1 .1 .1 .1 .0))
     (λ c κs. search needs) (λ c. search needs) (λ c. search needs)
     (λ c.
     let a = c .before .before .before .before .before .before .before .before .before .before .before .before .before .before .args in
