@@ -3,6 +3,9 @@ use libc::EAGAIN;
 use libc::EINTR;
 use libc::STDIN_FILENO;
 use libc::STDOUT_FILENO;
+ghost use mathlib.Core.Bool.{true};
+ghost use mathlib.Core.Path.{_≡_};
+ghost use lib.ListN.{length};
 ghost use Rattle.io.specs.Counts.{Counts};
 
 // Whether a call that has just failed may be made again. Before that, one that would have to wait lets others run.
@@ -33,8 +36,10 @@ pub fn read_some(piece: &mut [u8]) -> usize
     0
 }
 
-// Writes `text` to standard output, and answers whether all of it was taken. Behind a write that fails it makes no other.
-pub fn write_text(text: &[u8]) -> bool {
+// Writes `text` to standard output, and answers whether all of it was taken: of no bytes it was. Behind a write that fails it makes no other.
+pub fn write_text(text: &[u8]) -> bool
+    ensures { λ r. ⌜ (length (now (text .entry)) ≡ 0 → r ≡ true) ⌝ }
+{
     let mut from = 0;
     let mut tries = u64::MAX;
     while from < text.len() {
