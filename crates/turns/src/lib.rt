@@ -3,7 +3,8 @@ ghost use mathlib.Core.Path.{_≡_};
 ghost use mathlib.Core.Bool.{true, false};
 ghost use Prim.Native.Nat.{_≤_};
 ghost use lib.ListN.{length};
-ghost use Rattle.stream.specs.Feed.{Leads, Reached};
+ghost use Rattle.stream.specs.Feed.{Reached};
+ghost use Rattle.turns.specs.Led.{Begun};
 use stream::Feed;
 use stream::feed_piece;
 use stream::start;
@@ -31,7 +32,7 @@ fn hand_over(text: &[u8], writes: bool) -> bool
 // Answers a piece, a buffer of text at a time, and stops at a write that fails.
 fn answer_piece(f: Feed, store: &mut [u64], piece: &[u8], out: &mut [u8], writes: bool) -> Turn
     requires { ⌜ (length (now piece) ≤ 65536) × (length (now out) ≡ 65536) ⌝ }
-    ensures { λ r. ⌜ (r .written ≡ true → Leads f (now (store .entry)) (now (piece .entry)) (r .feed) (now (store .exit))) × (writes ≡ false → r .written ≡ true) ⌝ }
+    ensures { λ r. ⌜ Begun f (now (store .entry)) (now (piece .entry)) (r .feed) (now (store .exit)) (r .written) × (writes ≡ false → r .written ≡ true) ⌝ }
 {
     let mut g = f;
     let mut from = 0;
@@ -53,9 +54,10 @@ fn answer_piece(f: Feed, store: &mut [u64], piece: &[u8], out: &mut [u8], writes
     }
 }
 
-// Answers piece after piece, until the input ends or a write fails. Where the answers are not to be written, they are dropped.
+// Answers piece after piece, until the input ends or a write fails: what was answered is some input, from its start. Where the answers are
+// not to be written, they are dropped.
 pub fn run(store: &mut [u64], writes: bool) -> Turn
-    ensures { λ r. ⌜ (r .written ≡ true → Reached (now (store .entry)) (r .feed) (now (store .exit))) × (writes ≡ false → r .written ≡ true) ⌝ }
+    ensures { λ r. ⌜ Reached (now (store .entry)) (r .feed) (now (store .exit)) × (writes ≡ false → r .written ≡ true) ⌝ }
 {
     let mut piece = [0u8; 65536];
     let mut out = [0u8; 65536];

@@ -1,4 +1,3 @@
-use mathlib.Core.Path.{refl}
 use Rattle.ending.specs.Behind.{reached-left}
 use borrow.Author.Needs.{needs}
 use Rattle.ending.proofs.end_table.Statement.{statement}
@@ -10,4 +9,4 @@ end-table-spec =
     (tie.spec (λ c. search needs) (λ c κs. search needs)
     (λ c.
     let r = c .before .before .before .before .run in
-    reached-left (r .result .feed) _ (r .ensures .0 (r .ensures .1 refl))))
+    reached-left (r .result .feed) _ (r .ensures .0)))

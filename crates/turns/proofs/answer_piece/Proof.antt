@@ -1,4 +1,4 @@
-use Prim.Native.Nat.{_-_, _<_, _≤_}
+use Prim.Native.Nat.{_+_, _-_, _<_, _≤_}
 use mathlib.Core.Path.{_≡_, refl, sym, ap, _∙_}
 use mathlib.Core.Bool.{not, true≢false}
 use native.Mathlib.Omega.{arith}
@@ -20,7 +20,15 @@ answer-piece-spec =
     (λ store₀ piece out₀ writes g₀ from₀ store out g from. length piece - from)
     (λ c. (c .before .before .before .pre .1, refl, refl, omega arith, refl))
     (λ c. search needs) (λ c. search needs) (λ c. search needs) (λ c κs. search needs) (λ c. search needs) (λ c. simp length-take (omega arith)) (λ c κs. search needs) (λ c. search needs) (λ c. search needs)
-    (λ c. ((λ e. absurd (true≢false (sym e))), (λ e. absurd (true≢false (sym (c .if1 .taken) ∙ ap not (c .before .hand-over .ensures e))))))
+    (λ c.
+    let k = c .before .before .before .before .before .before .before in
+    let a = k .before .before .before .before .before .before .before .before .before .args in
+    let o = k .before .before .before .before .before .loop in
+    let d = k .feed-piece in
+    let l = piece-leads (a .f) (a .store .now) (a .piece .now) (o .from) (o .g) (o .store) (o .out) (d .result) _ _ (o .inv .4) (d .ensures .0) in (
+      record { taken = o .from + d .result .taken; led = l; all = λ e. absurd (true≢false (sym e)) },
+      λ e. absurd (true≢false (sym (c .if1 .taken) ∙ ap not (c .before .hand-over .ensures e))),
+    ))
     (λ c.
     let few = simp (length-take, length-drop) at (c .before .before .before .before .before .before .before .before .feed-piece .ensures .1 .0) in
     omega (arith, few))
@@ -42,4 +50,4 @@ answer-piece-spec =
     let o = c .before .loop in
     let a = c .before .before .before .before .before .args in
     let all : take (o .from) (a .piece .now) ≡ a .piece .now = take-all (o .from) (a .piece .now) (omega arith) in
-    ((λ e. rw all at (o .inv .4)), (λ e. refl))))
+    (record { taken = o .from; led = o .inv .4; all = λ e. all }, λ e. refl)))
