@@ -10,4 +10,4 @@ load-spec =
     (tie.spec
     (λ c κs. search needs)
     (λ c. search needs)
-    (λ c. ?))
+    (λ c. let p = c .before .before .before .before .before .before .pre in c .before .before .read-words .ensures ∙ loaded _ _ (p .0) (p .1)))

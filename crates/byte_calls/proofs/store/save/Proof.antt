@@ -11,4 +11,7 @@ save-spec =
     (tie.spec
     (λ c κs. search needs)
     (λ c. search needs)
-    (λ c. ?))
+    (λ c.
+    let p = c .before .before .before .before .before .before .pre in
+    let b : Bytes (c .before .before .before .before .before .before .args .bytes .now) = λ i. c .before .before .before .before .before .slice-known .given i .fits in
+    c .before .before .put-words .ensures ∙ saved _ _ _ _ b (p .0) (p .1) (p .2) (p .3)))
