@@ -1,5 +1,5 @@
--- The loops that read words off bytes, and write them.
-use Prim.Native.Nat.{ℕ, suc, _+_, _-_, _*_, _<_, _≤_}
+-- Words off bytes, and a run of them written: where the slices are long enough, and the loops.
+use Prim.Native.Nat.{ℕ, _+_, _-_, _*_, _<_, _≤_}
 use mathlib.Core.Path.{_≡_, refl, ap, sym, _∙_}
 use mathlib.Core.List.{List}
 use mathlib.Core.Logic.{⊎-elim}
@@ -8,16 +8,23 @@ use lib.ListN.{length, getD, set, drop, length-set}
 use lib.Seq.{ext-getD, getD-set-same, getD-set-other}
 use borrow.Author.Tests.{le-leb, lt-leb}
 use Rattle.bounded.specs.Bools.{same-or-not}
-use Rattle.bounded.specs.Fill.{tabulate, tabulate-at}
+use Rattle.bounded.specs.Fill.{tabulate-at}
 use Rattle.codec.specs.Number.{number}
-use Rattle.codec.specs.Array.{runs}
+use Rattle.codec.specs.Array.{runs, array, gets-length}
 use Rattle.codec.specs.Laid.{lay}
 use Rattle.codec.specs.Loop.{Laying, laying-none, laying-more, array-places}
 use Rattle.layout.specs.Whole.{wordsRead, wordsPut}
 
-tabulate-length : (n : ℕ) (f : ℕ → ℕ) → length (tabulate n f) ≡ n
-tabulate-length ℕ.zero f = refl
-tabulate-length (suc n) f = ap suc (tabulate-length n (λ k. f (suc k)))
+-- where there are bytes for k words
+pub read-whole : (k : ℕ) (ws bs : List ℕ) → length ws ≡ k → 8 * k ≤ length bs → wordsRead ws bs ≡ array k (number 8) 0 .get bs
+unfolding wordsRead
+read-whole k ws bs l m = rw (l, le-leb (8 * k) (length bs) m)
+
+-- where both slices reach the end of a run
+pub put-within : (from to : ℕ) (bs ws : List ℕ) → 8 * to ≤ length bs → to ≤ length ws
+    → wordsPut bs ws from to ≡ lay bs (8 * from) (runs (to - from) (λ j. number 8 .put (getD ws (from + j) 0)))
+unfolding wordsPut
+put-within from to bs ws l m = rw (le-leb (8 * to) (length bs) l, le-leb to (length ws) m)
 
 -- word i of the bytes
 abbrev word : List ℕ → ℕ → ℕ
@@ -44,17 +51,18 @@ module _ (ws bs : List ℕ) where
             (λ q. getD-set-other new i j x 0 q ∙ s .so-far j (omega arith)) (same-or-not j i);
       }
 
-  pub loaded : {new : List ℕ} {i : ℕ} → Loading ws bs new i → length ws ≤ i → 8 * length ws ≤ length bs → new ≡ wordsRead ws bs
-  unfolding wordsRead
-  loaded {new} {i} s h l =
-      rw (le-leb (8 * length ws) (length bs) l)
-      (ext-getD 0 new (tabulate (length ws) (word bs)) (s .long ∙ sym (tabulate-length (length ws) (word bs)))
-      (λ j m. s .so-far j (omega (arith, s .long)) ∙ sym (tabulate-at (length ws) (word bs) j 0 (omega (arith, s .long))))
-      ∙ sym (array-places (number 8) 0 (length ws) bs))
+  pub loading-all : {new : List ℕ} {i : ℕ} → Loading ws bs new i → length ws ≤ i → 8 * length ws ≤ length bs → new ≡ wordsRead ws bs
+  loading-all {new} {i} s h l =
+      ext-getD 0 new (array (length ws) (number 8) 0 .get bs) (s .long ∙ sym (gets-length (number 8) (length ws) bs))
+      (λ j m. s .so-far j (omega (arith, s .long)) ∙ sym (at j (omega (arith, s .long)))) ∙ sym (read-whole (length ws) ws bs refl l)
+    where
+      at : (j : ℕ) → j < length ws → getD (array (length ws) (number 8) 0 .get bs) j 0 ≡ word bs j
+      at j m = ap (λ t. getD t j 0) (array-places (number 8) 0 (length ws) bs) ∙ tabulate-at (length ws) (word bs) j 0 m
 
-  pub not-loaded : length bs < 8 * length ws → ws ≡ wordsRead ws bs
+  -- too few bytes
+  pub too-few : length bs < 8 * length ws → ws ≡ wordsRead ws bs
   unfolding wordsRead
-  not-loaded l = rw (lt-leb (8 * length ws) (length bs) l)
+  too-few l = rw (lt-leb (8 * length ws) (length bs) l)
 
 -- the words of the run are written up to place i
 pub record Putting (from to : ℕ) (old ws new : List ℕ) (i : ℕ) : Type 0 where
@@ -77,17 +85,16 @@ module _ (from to : ℕ) (old ws : List ℕ) where
         laying = rw n (laying-more (number 8) (λ j. getD ws (from + j) 0) (to - from) old (8 * from) (s .laying) (omega arith) (rw (m, k) (e .0)) (rw k (e .1)));
       }
 
-  pub put : {new : List ℕ} {i : ℕ} → Putting from to old ws new i → to ≤ i → 8 * to ≤ length old → to ≤ length ws → new ≡ wordsPut old ws from to
-  unfolding wordsPut
-  put {new} {i} s h l m =
+  pub putting-all : {new : List ℕ} {i : ℕ} → Putting from to old ws new i → to ≤ i → 8 * to ≤ length old → to ≤ length ws → new ≡ wordsPut old ws from to
+  putting-all {new} {i} s h l m =
       let e : to - from ≡ i - from = omega (arith, s .laying .within) in
-      rw (le-leb (8 * to) (length old) l, le-leb to (length ws) m, e) (s .laying .so-far)
+      rw (put-within from to old ws l m, e) (s .laying .so-far)
 
-  -- past the end of one of the slices
-  pub past-bytes : length old < 8 * to → old ≡ wordsPut old ws from to
+  -- the bytes, or the words, end before the run
+  pub bytes-end : length old < 8 * to → old ≡ wordsPut old ws from to
   unfolding wordsPut
-  past-bytes l = rw (lt-leb (8 * to) (length old) l)
+  bytes-end l = rw (lt-leb (8 * to) (length old) l)
 
-  pub past-words : 8 * to ≤ length old → length ws < to → old ≡ wordsPut old ws from to
+  pub words-end : 8 * to ≤ length old → length ws < to → old ≡ wordsPut old ws from to
   unfolding wordsPut
-  past-words l m = rw (le-leb (8 * to) (length old) l, lt-leb to (length ws) m)
+  words-end l m = rw (le-leb (8 * to) (length old) l, lt-leb to (length ws) m)

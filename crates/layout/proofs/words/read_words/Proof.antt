@@ -1,7 +1,7 @@
 use borrow.Author.Needs.{needs}
 use Prim.Native.Nat.{_-_}
 use native.Mathlib.Omega.{arith}
-use Rattle.layout.specs.Laws.Words.{Loading, loading-none, loading-more, loaded, not-loaded}
+use Rattle.layout.specs.Laws.Words.{Loading, loading-none, loading-more, loading-all, too-few}
 use Rattle.layout.proofs.words.read_words.Statement.{statement}
 use Rattle.layout.proofs.words.read_words.Tie as tie
 
@@ -17,7 +17,7 @@ read-words-spec =
     (tie.spec
     Inv-loop
     μ-loop
-    (λ c. not-loaded _ _ (omega (arith, c .if1 .taken)))
+    (λ c. too-few _ _ (omega (arith, c .if1 .taken)))
     (λ c. loading-none _ _)
     (λ c. search needs)
     (λ c κs. search needs)
@@ -27,4 +27,4 @@ read-words-spec =
     (λ c. search needs)
     (λ c. loading-more _ _ (c .before .before .loop .inv) (search needs) _ (c .word-at .ensures))
     (λ c. search needs)
-    (λ c. loaded _ _ (c .before .loop .inv) (search needs) (omega (arith, c .before .before .if1 .left))))
+    (λ c. loading-all _ _ (c .before .loop .inv) (search needs) (omega (arith, c .before .before .if1 .left))))
