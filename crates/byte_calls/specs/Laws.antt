@@ -1,6 +1,5 @@
 -- The laws of a call through C.
-pub mod Loaded
-pub mod Saved
+pub mod Stored
 pub mod Changed
 pub mod Concluded
 pub mod Refused

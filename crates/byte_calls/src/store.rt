@@ -1,11 +1,11 @@
 // The store's bytes as words, and back.
-use layout::numbers::put_word;
-use layout::numbers::word_at;
+use layout::words::put_words;
+use layout::words::read_words;
 ghost use mathlib.Core.Path.{_≡_};
 ghost use Prim.Native.Nat.{_≤_};
 ghost use lib.ListN.{length};
 ghost use Rattle.slices.specs.Slices.{words};
-ghost use Rattle.byte_calls.specs.Laws.Saved.{Outside};
+ghost use Rattle.byte_calls.specs.Laws.Stored.{Outside};
 
 // How many words the store has.
 pub const WORDS: usize = 8192;
@@ -15,11 +15,7 @@ pub fn load(store: &mut [u64], bytes: &[u8])
     requires { ⌜ (length (now store) ≡ 8192) × (length (now bytes) ≡ 65536) ⌝ }
     ensures { λ _. ⌜ now (store .exit) ≡ words .get (now (bytes .entry)) ⌝ }
 {
-    let mut i = 0;
-    while i < WORDS {
-        store[i] = word_at(bytes, 8 * i);
-        i += 1;
-    }
+    read_words(store, bytes);
 }
 
 // The words of a run written to the store's bytes; outside it the bytes have them already.
@@ -27,9 +23,5 @@ pub fn save(bytes: &mut [u8], store: &[u64], from: usize, to: usize)
     requires { ⌜ (length (now bytes) ≡ 65536) × (length (now store) ≡ 8192) × (to ≤ 8192) × Outside from to (now bytes) (now store) ⌝ }
     ensures { λ _. ⌜ now (bytes .exit) ≡ words .put (now (store .entry)) ⌝ }
 {
-    let mut i = from;
-    while i < to {
-        put_word(bytes, 8 * i, store[i]);
-        i += 1;
-    }
+    put_words(bytes, store, from, to);
 }

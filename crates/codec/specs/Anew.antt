@@ -1,18 +1,19 @@
 -- Some values of an array laid anew, over bytes that have the others already.
-use Prim.Native.Nat.{ℕ, suc, _+_, _*_, _<_, _≤_}
+use Prim.Native.Nat.{ℕ, suc, _+_, _-_, _*_, _<_, _≤_}
 use mathlib.Core.Path.{_≡_, refl, ap, sym, _∙_}
-use mathlib.Core.Bool.{Bool, true, false, cond}
-use mathlib.Core.List.{List, [], _∷_, _++_}
+use mathlib.Core.Bool.{Bool, true, false}
+use mathlib.Core.List.{List, [], _∷_, _++_, append-assoc}
 use mathlib.Core.Logic.{_⊎_, inl, inr}
 use native.Mathlib.Omega.{arith}
-use native.Mathlib.Nat.{mul-suc, mul-zero, suc-add, zero-add}
-use lib.Dec.{ltb}
+use native.Mathlib.Nat.{suc-add, zero-add, add-zero}
+use lib.Dec.{leb}
 use lib.ListN.{length, getD, set, length-append}
 use lib.Seq.{drop-at, sets-eq, take-all}
-use borrow.Author.Tests.{ltb-true, ltb-false, lt-ltb, le-ltb}
+use borrow.Author.Tests.{leb-true, leb-false}
 use Rattle.codec.specs.Codec.{Bytes, Codec}
-use Rattle.codec.specs.Array.{times, runs, array}
-use Rattle.codec.specs.Laid.{lay, lay-length, lay-sets}
+use Rattle.codec.specs.Array.{times, runs, array, puts-length}
+use Rattle.codec.specs.Laid.{lay, lay-sets}
+use Rattle.codec.specs.Loop.{times-mul}
 
 lay-cons : (x : ℕ) (l : List ℕ) (i : ℕ) (ys : List ℕ) → lay (x ∷ l) (suc i) ys ≡ x ∷ lay l i ys
 lay-cons x l i [] = refl
@@ -32,19 +33,27 @@ runs-same : (k : ℕ) (f g : ℕ → List ℕ) → ((j : ℕ) → j < k → f j 
 runs-same ℕ.zero f g h = refl
 runs-same (suc k) f g h = cc (h 0 (omega arith), runs-same k (λ j. f (suc j)) (λ j. g (suc j)) (λ j l. h (suc j) (omega arith)))
 
--- one of the runs laid anew
-runs-lay : (n : ℕ) (b : List ℕ) → length b ≡ n → (k i : ℕ) (f g : ℕ → List ℕ) → ((j : ℕ) → length (f j) ≡ n) → i < k
-    → g i ≡ b → ((j : ℕ) → (j ≡ i → ⊥) → g j ≡ f j) → lay (runs k f) (n * i) b ≡ runs k g
-runs-lay n b e ℕ.zero i f g h l there other = absurd (omega arith)
-runs-lay n b e (suc k) ℕ.zero f g h l there other =
-    rw (mul-zero, there, runs-same k (λ j. g (suc j)) (λ j. f (suc j)) (λ j m. other (suc j) (λ z. omega arith))) (lay-over (f 0) _ b (e ∙ sym (h 0)))
-runs-lay n b e (suc k) (suc i) f g h l there other =
-    let m : n * suc i ≡ length (f 0) + n * i = rw (mul-suc, h 0) (omega arith) in
+runs-split : (a b : ℕ) (f : ℕ → List ℕ) → runs (a + b) f ≡ runs a f ++ runs b (λ j. f (a + j))
+runs-split ℕ.zero b f = simp zero-add
+runs-split (suc a) b f = rw (suc-add, runs-split a b (λ i. f (suc i)), append-assoc) (simp suc-add)
+
+-- of k values those of a run, m behind the first `from`, are laid anew; before it and behind it the values are the same
+lay-run : {n : ℕ} {A : Type 0} (c : Codec n A) (x y : ℕ → A) (k from m r : ℕ) → k ≡ from + (m + r)
+    → ((j : ℕ) → j < from → x j ≡ y j) → ((j : ℕ) → j < r → x (from + (m + j)) ≡ y (from + (m + j)))
+    → lay (runs k (λ j. c .put (x j))) (n * from) (runs m (λ j. c .put (y (from + j)))) ≡ runs k (λ j. c .put (y j))
+lay-run {n} c x y k from m r e before behind =
+    let at : n * from ≡ length (runs from (λ j. c .put (x j))) + 0 = rw (add-zero, puts-length c from x, times-mul from n) in
     rw (
-      m,
+      e,
+      runs-split from (m + r) (λ j. c .put (x j)),
+      runs-split from (m + r) (λ j. c .put (y j)),
+      runs-split m r (λ j. c .put (x (from + j))),
+      runs-split m r (λ j. c .put (y (from + j))),
+      at,
       lay-behind,
-      other 0 (λ z. omega arith),
-      runs-lay n b e k i (λ j. f (suc j)) (λ j. g (suc j)) (λ j. h (suc j)) (omega arith) there (λ j u. other (suc j) (λ z. u (omega arith))),
+      lay-over _ _ (runs m (λ j. c .put (y (from + j)))) (puts-length c m (λ j. y (from + j)) ∙ sym (puts-length c m (λ j. x (from + j)))),
+      runs-same from _ _ (λ j l. ap (c .put) (before j l)),
+      runs-same r _ _ (λ j l. ap (c .put) (behind j l)),
     )
 
 -- the values `xs` go into bytes that have those outside the run from `from` to `to` already
@@ -52,51 +61,27 @@ module _ {n : ℕ} {A : Type 0} (c : Codec n A) (d : A) (k : ℕ) (old : List �
   abbrev pub Outside : Type 0
   Outside = (j : ℕ) → j < k → (j < from) ⊎ (to ≤ j) → getD xs j d ≡ getD (array k c d .get old) j d
 
-  -- the new values before place i, the old ones from there on
-  abbrev mixed : ℕ → ℕ → A
-  mixed i j = cond (ltb j i) (getD xs j d) (getD (array k c d .get old) j d)
-
-  -- laid up to place i
-  pub record Anew (new : List ℕ) (i : ℕ) : Type 0 where
-    pub long : length new ≡ length old
-    pub so-far : new ≡ runs k (λ j. c .put (mixed i j))
-
-  pub anew-none : Bytes old → length old ≡ times k n → array k c d .ok old ≡ true → Outside → Anew old from
-  anew-none h l o out =
-      record {
-        long = refl;
-        so-far =
-            sym (take-all (times k n) old (omega arith)) ∙ sym (array k c d .put-get old h (omega arith) o)
-            ∙ runs-same k _ _ (λ j m. ap (c .put) (same j m (ltb j from) refl));
-      }
+  -- THE RUN IS ENOUGH: with it laid, the bytes have all values
+  pub anew : Bytes old → length old ≡ times k n → array k c d .ok old ≡ true → to ≤ k → Outside
+      → lay old (n * from) (runs (to - from) (λ j. c .put (getD xs (from + j) d))) ≡ array k c d .put xs
+  anew h l o within out = ap (λ t. lay t (n * from) (runs (to - from) (λ j. c .put (getD xs (from + j) d)))) there ∙ go (leb from to) refl
     where
-      same : (j : ℕ) → j < k → (b : Bool) → ltb j from ≡ b
-          → getD (array k c d .get old) j d ≡ cond b (getD xs j d) (getD (array k c d .get old) j d)
-      same j m true e = sym (out j m (inl (ltb-true j from e)))
-      same j m false e = refl
+      was : ℕ → A
+      was j = getD (array k c d .get old) j d
 
-  pub anew-more : {new next : List ℕ} {i : ℕ} → Anew new i → i < k → next ≡ lay new (n * i) (c .put (getD xs i d)) → Anew next (i + 1)
-  anew-more {new} {next} {i} s h e =
-      record {
-        long = rw (e, lay-length) (s .long);
-        so-far =
-            e ∙ ap (λ t. lay t (n * i) (c .put (getD xs i d))) (s .so-far)
-            ∙ runs-lay n (c .put (getD xs i d)) (c .put-length (getD xs i d)) k i _ _ (λ j. c .put-length (mixed i j)) h there other;
-      }
-    where
-      there : c .put (mixed (i + 1) i) ≡ c .put (getD xs i d)
-      there = let m : i < i + 1 = omega arith in rw (lt-ltb i (i + 1) m)
+      there : old ≡ runs k (λ j. c .put (was j))
+      there = sym (take-all (times k n) old (omega arith)) ∙ sym (array k c d .put-get old h (omega arith) o)
 
-      earlier : (j : ℕ) → (j ≡ i → ⊥) → (b : Bool) → ltb j i ≡ b → ltb j (i + 1) ≡ ltb j i
-      earlier j u true r = let m : j < i = ltb-true j i r in let m′ : j < i + 1 = omega arith in lt-ltb j (i + 1) m′ ∙ sym r
-      earlier j u false r = let m : i ≤ j = ltb-false j i r in let m′ : i + 1 ≤ j = omega arith in le-ltb j (i + 1) m′ ∙ sym r
-
-      other : (j : ℕ) → (j ≡ i → ⊥) → c .put (mixed (i + 1) j) ≡ c .put (mixed i j)
-      other j u = ap (λ b. c .put (cond b (getD xs j d) (getD (array k c d .get old) j d))) (earlier j u (ltb j i) refl)
-
-  pub anew-all : {new : List ℕ} {i : ℕ} → Anew new i → to ≤ i → Outside → new ≡ array k c d .put xs
-  anew-all {new} {i} s h out = s .so-far ∙ runs-same k _ _ (λ j m. ap (c .put) (same j m (ltb j i) refl))
-    where
-      same : (j : ℕ) → j < k → (b : Bool) → ltb j i ≡ b → cond b (getD xs j d) (getD (array k c d .get old) j d) ≡ getD xs j d
-      same j m true e = refl
-      same j m false e = sym (out j m (inr (omega (arith, ltb-false j i e))))
+      go : (b : Bool) → leb from to ≡ b
+          → lay (runs k (λ j. c .put (was j))) (n * from) (runs (to - from) (λ j. c .put (getD xs (from + j) d))) ≡ array k c d .put xs
+      go true e =
+          let f : from ≤ to = leb-true from to e in
+          lay-run c was (λ j. getD xs j d) k from (to - from) (k - to) (omega arith) (λ j m. sym (out j (omega arith) (inl m)))
+          (λ j m. sym (out (from + (to - from + j)) (omega arith) (inr (omega arith))))
+      go false e =
+          let z : to - from ≡ 0 = omega (arith, leb-false from to e) in
+          rw z (runs-same k _ _ (λ j m. ap (c .put) (sym (out j m (beside j (leb to j) refl)))))
+        where
+          beside : (j : ℕ) (b : Bool) → leb to j ≡ b → (j < from) ⊎ (to ≤ j)
+          beside j true q = inr (leb-true to j q)
+          beside j false q = inl (omega (arith, leb-false to j q, leb-false from to e))

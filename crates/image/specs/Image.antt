@@ -10,14 +10,13 @@ use lib.Seq.{take-all}
 use borrow.Author.Tests.{eqb-true, eq-eqb, ne-eqb}
 use Rattle.bounded.specs.Bools.{and-left, and-right}
 use Rattle.codec.specs.Codec.{Bytes, same-image}
-use Rattle.codec.specs.Laid.{lay, lay-all}
-use Rattle.codec.specs.Number.{number, byte}
 use Rattle.state.specs.Places.{emptyState}
 use Rattle.soundness.specs.Sound.{sound}
 use Rattle.state.specs.declared.State.{State}
 use Rattle.image.specs.declared.Reading.{Reading}
 use Rattle.layout.specs.Sizes.{stateSize}
-use Rattle.layout.specs.Layout.{capability, password, entries, registration, passwords, object, objects, estate, estates, table, fourBytes, accounts, state}
+use Rattle.layout.specs.Layout.{state}
+use Rattle.layout.specs.Whole.{stateOf, truthsOk, withState}
 
 -- an image reads if it has the length, its bytes for yes or no are 1 or 0, and its state is sound
 unfoldable pub reading : List ℕ → Reading
@@ -30,23 +29,15 @@ reading image =
 unfoldable pub written : List ℕ → State → List ℕ
 written image s = cond (eqb (length image) stateSize) (state .put s) image
 
--- no yes or no stands in the object table
-pub table-ok : (bs : List ℕ) → table .ok bs ≡ true
-unfolding number byte capability password entries registration passwords object objects estate estates table
-table-ok bs = refl
-
--- nor in the accounts
-pub accounts-ok : (bs : List ℕ) → accounts .ok bs ≡ true
-unfolding byte fourBytes accounts
-accounts-ok bs = refl
+written-reads : (s : State) → state .get (state .put s) ≡ s → reading (state .put s) ≡ record { readable = sound s; state = s }
+unfolding reading
+written-reads s g =
+    let o : state .ok (state .put s) ≡ true = rw (append-nil (state .put s)) at (state .ok-put s []) in
+    rw (state .put-length s, o, g)
 
 -- WHAT IS WRITTEN FOR A SOUND STATE READS AS THAT STATE. `fits`: the numbers fit their types and the arrays are full, as in every value of the code
 pub reads-back : (s : State) → state .fits s → reading (state .put s) ≡ record { readable = sound s; state = s }
-unfolding reading
-reads-back s f =
-    let g : state .get (state .put s) ≡ s = rw (append-nil (state .put s)) at (state .get-put s [] f) in
-    let o : state .ok (state .put s) ≡ true = rw (append-nil (state .put s)) at (state .ok-put s []) in
-    rw (state .put-length s, o, g)
+reads-back s f = written-reads s (rw (append-nil (state .put s)) at (state .get-put s [] f))
 
 taken : (b : Bool) (r : Reading) → cond b r (record { readable = false; state = emptyState }) .readable ≡ true → b ≡ true
 taken true r h = refl
@@ -82,17 +73,23 @@ writes-back a ha ra =
     let l = readable-length a ra in
     rw (readable-is a ra) (state .put-get a ha (omega arith) (readable-ok a ra) ∙ take-all stateSize a (omega arith))
 
+-- what the code of reading hands back
+module _ (image : List ℕ) where
+  pub reads : length image ≡ stateSize → record { readable = truthsOk image && sound (stateOf image); state = stateOf image } ≡ reading image
+  unfolding truthsOk stateOf reading
+  reads l = rw (eq-eqb (length image) stateSize l)
+
+  pub reads-not : (length image ≡ stateSize → ⊥) → record { readable = false; state = stateOf image } ≡ reading image
+  unfolding stateOf reading
+  reads-not h = rw (ne-eqb (length image) stateSize h)
+
 -- what the code of writing leaves
-module _ (s : State) (old : List ℕ) where
-  abbrev pub Wrote : List ℕ → Type 0
-  Wrote new = (new ≡ written old s) × (length old ≡ stateSize → reading new ≡ record { readable = sound s; state = s })
-
-  pub wrote : (new : List ℕ) → new ≡ lay old 0 (state .put s) → state .fits s → length old ≡ stateSize → Wrote new
-  unfolding written
-  wrote new e f l =
-      let w : new ≡ state .put s = e ∙ lay-all (state .put s) old (l ∙ sym (state .put-length s)) in
-      (rw (eq-eqb (length old) stateSize l) w, λ _. rw w (reads-back s f))
-
-  pub left : (length old ≡ stateSize → ⊥) → Wrote old
-  unfolding written
-  left h = (rw (ne-eqb (length old) stateSize h), λ l. absurd (h l))
+pub wrote : (s : State) (old new : List ℕ) → new ≡ withState old s → (length old ≡ stateSize → stateOf new ≡ s)
+    → (new ≡ written old s) × (length old ≡ stateSize → reading new ≡ record { readable = sound s; state = s })
+unfolding withState stateOf written
+wrote s old new e f = (
+  e,
+  λ l.
+      let w : new ≡ state .put s = rw (eq-eqb (length old) stateSize l) at e in
+      rw w (written-reads s (rw (w, state .put-length s) at (f l))),
+)

@@ -1,2 +1,4 @@
 pub mod Layout
 pub mod Sizes
+pub mod Whole
+pub mod Laws

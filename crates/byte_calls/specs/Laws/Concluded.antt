@@ -27,7 +27,7 @@ use Rattle.slices.specs.Slices.{words, values, filled, cleared, wrongLength}
 use Rattle.slices.specs.Laws.Valued.{filled-whole}
 use Rattle.byte_calls.specs.Called.{Slices, slices, Told, told, refusedBy, toldBy, isDone, checkedBy, called, booted}
 use Rattle.byte_calls.specs.Changed.{changedBy}
-use Rattle.byte_calls.specs.Laws.Saved.{Outside}
+use Rattle.byte_calls.specs.Laws.Stored.{Outside}
 use Rattle.byte_calls.specs.Laws.Changed.{run-within, state-left, words-left}
 use Rattle.byte_calls.specs.declared.Changed.{Changed}
 

@@ -1,16 +1,14 @@
--- The loop that writes the values.
-use Prim.Native.Nat.{ℕ, suc, _+_, _*_, _<_, _≤_}
+-- The values as they are written.
+use Prim.Native.Nat.{ℕ, suc, _<_, _≤_}
 use mathlib.Core.Path.{_≡_, refl, sym, _∙_}
 use mathlib.Core.List.{List, [], _∷_}
-use native.Mathlib.Nat.{zero-add}
 use native.Mathlib.Omega.{arith}
 use lib.ListN.{length, getD, take}
 use lib.Seq.{getD-take}
 use borrow.Author.Tests.{eq-eqb, ne-eqb}
-use Rattle.codec.specs.Number.{number}
-use Rattle.codec.specs.Array.{runs}
-use Rattle.codec.specs.Laid.{lay, lay-all}
-use Rattle.codec.specs.Loop.{Laying, laying-none, laying-more}
+use Rattle.bounded.specs.Fill.{tabulate}
+use Rattle.codec.specs.Laid.{lay-all}
+use Rattle.layout.specs.Whole.{wordsPut}
 use Rattle.calls.specs.Answers.{valuesFrom}
 use Rattle.calls.specs.declared.Answer.the-variants.{Done}
 use Rattle.calls.specs.declared.Fields.{Fields}
@@ -20,35 +18,23 @@ use Rattle.slices.specs.Slices.{values, filled}
 abbrev pub valueAt : ℕ → Fields → ℕ → ℕ
 valueAt value f i = getD (valuesFrom (Done value) f) i 0
 
--- the first i values are written
-abbrev pub Valuing : ℕ → Fields → List ℕ → List ℕ → ℕ → Type 0
-Valuing value f old new i = Laying (number 8) (valueAt value f) 11 old 0 new i
+-- the eleven values over a slice of their length
+pub valued : (value : ℕ) (f : Fields) (bytes : List ℕ) → length bytes ≡ 88
+    → wordsPut bytes (tabulate 11 (valueAt value f)) 0 11 ≡ filled bytes (valuesFrom (Done value) f)
+unfolding wordsPut values filled
+valued value f bytes l =
+    let vs : List ℕ = valuesFrom (Done value) f in
+    rw l (lay-all (values .put vs) bytes (l ∙ sym (values .put-length vs)))
 
-module _ (value : ℕ) (f : Fields) (old : List ℕ) where
-  pub valuing-none : Valuing value f old old 0
-  valuing-none = laying-none (number 8) (valueAt value f) 11 old 0
+-- over a slice of another length
+pub filled-not : (bytes vs : List ℕ) → (length bytes ≡ 88 → ⊥) → bytes ≡ filled bytes vs
+unfolding filled
+filled-not bytes vs l = rw (ne-eqb _ 88 l)
 
-  pub valuing-more : {new next : List ℕ} {i x : ℕ} → Valuing value f old new i → i < 11
-      → (next ≡ lay new (8 * i) (number 8 .put x)) × number 8 .fits x → x ≡ valueAt value f i → Valuing value f old next (i + 1)
-  valuing-more {new} {next} {i} {x} s h e q =
-      laying-more (number 8) (valueAt value f) 11 old 0 s h (rw (zero-add (8 * i), ← q) (e .0)) (rw (← q) (e .1))
-
-  pub valued : {new : List ℕ} {i : ℕ} → Valuing value f old new i → 11 ≤ i → length old ≡ 88 → new ≡ values .put (valuesFrom (Done value) f)
-  unfolding values
-  valued {new} {i} s h l =
-      let e : i ≡ 11 = omega arith in
-      let w : new ≡ lay old 0 (runs 11 (λ j. number 8 .put (valueAt value f j))) = rw e at (s .so-far) in
-      w ∙ lay-all (values .put (valuesFrom (Done value) f)) old (l ∙ sym (values .put-length (valuesFrom (Done value) f)))
-
--- over a slice of their length, and over another
-module _ (bytes vs : List ℕ) where
-  pub filled-whole : length bytes ≡ 88 → filled bytes vs ≡ values .put vs
-  unfolding filled
-  filled-whole l = rw (eq-eqb _ 88 l)
-
-  pub filled-not : (length bytes ≡ 88 → ⊥) → bytes ≡ filled bytes vs
-  unfolding filled
-  filled-not l = rw (ne-eqb _ 88 l)
+-- over a slice of their length
+pub filled-whole : (bytes vs : List ℕ) → length bytes ≡ 88 → filled bytes vs ≡ values .put vs
+unfolding filled
+filled-whole bytes vs l = rw (eq-eqb _ 88 l)
 
 -- the value alone, or the fields
 take-past : (n : ℕ) (l : List ℕ) (i : ℕ) → n ≤ i → 0 ≡ getD (take n l) i 0

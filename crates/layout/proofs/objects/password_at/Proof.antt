@@ -1,0 +1,16 @@
+use borrow.Author.Needs.{needs}
+use lib.Seq.{drop-drop}
+use Rattle.codec.specs.Number.{byte-at}
+use Rattle.layout.specs.Layout.{password}
+use Rattle.layout.proofs.objects.password_at.Statement.{statement}
+use Rattle.layout.proofs.objects.password_at.Tie as tie
+
+pub password-at-spec : {M : Type 1} → statement M
+unfolding password
+password-at-spec =
+    tie.close
+    (tie.spec
+    (λ c κs. search needs)
+    (λ c. search needs)
+    (λ c. search needs)
+    (λ c. simp (drop-drop, byte-at) (cc)))
