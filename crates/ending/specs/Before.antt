@@ -14,14 +14,14 @@ use Rattle.calls.specs.declared.Answer.{Answer}
 use Rattle.calls.specs.declared.Answer.the-variants.{Done, Refused}
 use Rattle.runs.specs.Laws.Unbooted.{Unbooted, empty-unbooted, step-unbooted}
 use Rattle.lines.specs.Grammar.{lineOf}
-use Rattle.lines.specs.Reading.{Reading, unreadable, bootBy, callBy}
+use Rattle.lines.specs.Reading.{Reading, answered, bootBy, callBy}
 use Rattle.replies.specs.Reply.{reply, stateAfter}
 use Rattle.stream.specs.Run.{Progress, onByteBy, onByte, started}
 use Rattle.ending.specs.Behind.{behind}
 
 -- a line is a boot that is answered 0
 abbrev pub Boots : World → Reading → Type 0
-Boots w unreadable = ⊥
+Boots w (answered number) = ⊥
 Boots w (bootBy d plan) = numberOf (boot (w .words) d plan .outcome .answer) ≡ 0
 Boots w (callBy d c) = ⊥
 
@@ -36,7 +36,7 @@ refused-stays old (Refused why) new n u = u
 
 line-unbooted : (w : World) (r : Reading) → (Boots w r → ⊥) → Unbooted (w .state) → Unbooted (reply step w r .world .state)
 unfolding reply
-line-unbooted w unreadable n u = u
+line-unbooted w (answered number) n u = u
 line-unbooted w (bootBy d plan) n u = refused-stays (w .state) (boot (w .words) d plan .outcome .answer) (boot (w .words) d plan .outcome .state) n u
 line-unbooted w (callBy d c) n u = step-unbooted w (record { domain = d; call = c }) u
 

@@ -6,7 +6,7 @@ use mathlib.Core.List.{List}
 use mathlib.Core.Option.{Option, none, some}
 use native.Mathlib.Omega.{arith}
 use lib.ListN.{length, take, drop, drop-of-length-le}
-use borrow.Author.Tests.{le-ltb}
+use borrow.Author.Tests.{lt-ltb, le-ltb}
 use Rattle.bounded.specs.Folds.{rest-all}
 use Rattle.lines.specs.declared.Field.{Field}
 use Rattle.lines.specs.declared.Field.the-variants.{Empty, Number, Bad}
@@ -22,7 +22,7 @@ use Rattle.lines.specs.Arguments.{numbersOf}
 use Rattle.lines.specs.Taking.{isNumber}
 use Rattle.lines.specs.Keeping.{given, argumentsOf}
 use Rattle.lines.specs.Letters.{lettersOf}
-use Rattle.lines.specs.Reading.{Reading, unreadable}
+use Rattle.lines.specs.Reading.{Reading, answered, unreadable}
 use Rattle.lines.specs.Grammar.{lineBytes, callOf, withArguments, lineWith, lineOf}
 
 domain-bad : (f : Field) (fs : List (List ℕ)) → isNumber f ≡ false → unreadable ≡ lineWith f fs
@@ -35,12 +35,12 @@ letters-bad d none = refl
 letters-bad d (some vs) = refl
 
 -- a call, by its arguments
-pub given-bad : (d : ℕ) (m : Mnemonic) (t : List ℕ) → arguments.Unreadable ≡ argumentsOf t → unreadable ≡ withArguments d (Known (Call m)) (numbersOf (behind t))
+pub given-bad : (d : ℕ) (m : Mnemonic) (t : List ℕ) {n : ℕ} → arguments.Answered n ≡ argumentsOf t → answered n ≡ withArguments d (Known (Call m)) (numbersOf (behind t))
 unfolding argumentsOf
-given-bad d m t h = go (numbersOf (behind t)) h
+given-bad d m t {n} h = go (numbersOf (behind t)) h
   where
-    go : (o : Option (List ℕ)) → arguments.Unreadable ≡ given o → unreadable ≡ withArguments d (Known (Call m)) o
-    go none k = refl
+    go : (o : Option (List ℕ)) → arguments.Answered n ≡ given o → answered n ≡ withArguments d (Known (Call m)) o
+    go none k = cc
     go (some vs) k = cc
 
 pub given-numbers : (d : ℕ) (m : Mnemonic) (t : List ℕ) {n : ℕ} {x : Eight} → arguments.Numbers n x ≡ argumentsOf t → callOf d m n x ≡ withArguments d (Known (Call m)) (numbersOf (behind t))
@@ -50,6 +50,10 @@ given-numbers d m t {n} {x} h = go (numbersOf (behind t)) h
     go : (o : Option (List ℕ)) → arguments.Numbers n x ≡ given o → callOf d m n x ≡ withArguments d (Known (Call m)) o
     go none k = cc
     go (some vs) k = cc
+
+pub too-long : (s : List ℕ) → lineBytes < length s → unreadable ≡ lineOf s
+unfolding lineOf
+too-long s h = rw (lt-ltb _ _ h)
 
 module _ (s : List ℕ) (fits : length s ≤ lineBytes) {d : ℕ} (first : d ≡ 0 + commaOf s) where
   line-is : lineOf s ≡ lineWith (fieldOf (take d s)) (behind (drop d s))
@@ -72,9 +76,8 @@ module _ (s : List ℕ) (fits : length s ≤ lineBytes) {d : ℕ} (first : d ≡
           rw (line-is, ← domain, behind-at s d l, w, end)
 
       -- the letters, and the text behind them
-      pub by-letters : {l : Letters} {r : Reading} → l ≡ lettersOf (take (e - (d + 1)) (drop (d + 1) s)) → r ≡ withArguments v l (numbersOf (behind (take (length s - e) (drop e s))))
-          → r ≡ lineOf s
-      by-letters known h = rw (line-at, ← known) (rw rest-all at h)
+      pub by-letters : {l : Letters} → l ≡ lettersOf (take (e - (d + 1)) (drop (d + 1) s)) → withArguments v l (numbersOf (behind (take (length s - e) (drop e s)))) ≡ lineOf s
+      by-letters known = rw (line-at, ← known, rest-all)
 
       pub unknown-letters : Unknown ≡ lettersOf (take (e - (d + 1)) (drop (d + 1) s)) → unreadable ≡ lineOf s
       unknown-letters h = rw (line-at, ← h) (letters-bad v (numbersOf (behind (drop e s))))

@@ -17,7 +17,7 @@ use Rattle.lines.specs.Arguments.{numbersOf, eightOf}
 use Rattle.lines.specs.Taking.{Taking, isNumber, taking-none, taking-more, taking-bad, taking-all}
 
 abbrev pub given : Option (List ℕ) → Arguments
-given none = arguments.Unreadable
+given none = arguments.Answered 1
 given (some vs) = arguments.Numbers (length vs) (eightOf vs)
 
 -- the arguments in the text behind the call letters
@@ -74,6 +74,6 @@ module _ {t : List ℕ} where
             so-far = w ∙ rw (k .so-far, k .count) (eight-more (k .numbers) v);
           }
 
-      pub keeping-bad : isNumber (fieldOf (take (e - (i + 1)) (drop (i + 1) t))) ≡ false → arguments.Unreadable ≡ argumentsOf t
+      pub keeping-bad : isNumber (fieldOf (take (e - (i + 1)) (drop (i + 1) t))) ≡ false → arguments.Answered 1 ≡ argumentsOf t
       unfolding argumentsOf
       keeping-bad b = rw (taking-bad (k .taken) h end b)

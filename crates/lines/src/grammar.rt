@@ -79,7 +79,7 @@ fn exactly(domain: u64, count: usize, n: usize, call: Call) -> Line
     if count == n {
         return Line::Call { domain, call };
     }
-    Line::Unreadable
+    Line::Answered(1)
 }
 
 // An access that has as many arguments as it takes.
@@ -113,7 +113,7 @@ fn at_least(domain: u64, count: usize, n: usize, call: ObjectCall) -> Line
             call: Call::OnObject(call),
         };
     }
-    Line::Unreadable
+    Line::Answered(1)
 }
 
 // How many entries stand behind the four other arguments of RG.

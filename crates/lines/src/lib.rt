@@ -4,13 +4,11 @@ use calls::Call;
 use fields::letters_of;
 use grammar::call_of;
 ghost use mathlib.Core.Path.{_≡_};
-ghost use lib.ListN.{length};
-ghost use Rattle.calls.specs.Boot.{bootNumbers};
 ghost use Rattle.lines.specs.declared.Letters.the-variants.{Known};
 ghost use Rattle.lines.specs.declared.Named.the-variants.{Boot, Call as Named·Call};
 ghost use Rattle.lines.specs.Arguments.{numbersOf, eightOf};
 ghost use Rattle.lines.specs.Cut.{behind};
-ghost use Rattle.lines.specs.Reading.{reads, Whatever};
+ghost use Rattle.lines.specs.Reading.{ReadAs, Whatever};
 ghost use Rattle.lines.specs.Keeping.{withNumber, argumentsOf};
 ghost use Rattle.lines.specs.Grammar.{withArguments, lineOf};
 
@@ -61,16 +59,16 @@ enum Mnemonic {
     Rt,
 }
 
-// A line as a domain and a call, or a boot, whose numbers stand beside it.
+// A line that is answered at once, by this number; a boot, whose numbers stand beside it; or a call.
 pub enum Line {
-    Unreadable,
+    Answered(u64),
     Boot { domain: u64 },
     Call { domain: u64, call: Call },
 }
 
-// How many arguments a line has, and the first eight.
+// A line that is answered at once, by this number; or how many arguments it has, and the first eight.
 enum Arguments {
-    Unreadable,
+    Answered(u64),
     Numbers(usize, Eight),
 }
 
@@ -102,7 +100,7 @@ fn read_arguments(t: &[u8]) -> Arguments
         let from = at + 1;
         at = find(t, from, 44);
         let Field::Number(v) = number(&t[from..at]) else {
-            return Arguments::Unreadable;
+            return Arguments::Answered(1);
         };
         keep(&mut values, n, v);
         n += 1;
@@ -114,55 +112,57 @@ fn read_arguments(t: &[u8]) -> Arguments
 fn read_call(domain: u64, mnemonic: Mnemonic, t: &[u8]) -> Line
     ensures { λ r. ⌜ Whatever r (withArguments domain (Known (Named·Call mnemonic)) (numbersOf (behind (now (t .entry))))) ⌝ }
 {
-    let Arguments::Numbers(n, x) = read_arguments(t) else {
-        return Line::Unreadable;
-    };
-    call_of(domain, mnemonic, n, x)
+    let arguments = read_arguments(t);
+    match arguments {
+        Arguments::Answered(number) => return Line::Answered(number),
+        Arguments::Numbers(n, x) => return call_of(domain, mnemonic, n, x),
+    }
 }
 
-// A boot, with its numbers in the text t: all that it takes and no more are put into the plan.
-fn read_boot(domain: u64, t: &[u8], plan: &mut [u64]) -> Line
-    requires { ⌜ length (now plan) ≡ bootNumbers ⌝ }
-    ensures { λ r. ⌜ reads r (now (plan .exit)) ≡ withArguments domain (Known Boot) (numbersOf (behind (now (t .entry)))) ⌝ }
+// A boot, with its numbers in the text t: where it has all that it takes and no more, they are put into the plan.
+fn read_boot(domain: u64, t: &[u8], plan: &mut [u64; BOOT_NUMBERS]) -> Line
+    ensures { λ r. ⌜ ReadAs r (now (plan .entry)) (now (plan .exit)) (withArguments domain (Known Boot) (numbersOf (behind (now (t .entry))))) ⌝ }
 {
+    let mut numbers = [0; BOOT_NUMBERS];
     let mut n = 0;
     let mut at = 0;
     while at < t.len() {
         let from = at + 1;
         at = find(t, from, 44);
         let Field::Number(v) = number(&t[from..at]) else {
-            return Line::Unreadable;
+            return Line::Answered(1);
         };
         if n == BOOT_NUMBERS {
-            return Line::Unreadable;
+            return Line::Answered(1);
         }
-        plan[n] = v;
+        numbers[n] = v;
         n += 1;
     }
     if n < BOOT_NUMBERS {
-        return Line::Unreadable;
+        return Line::Answered(1);
     }
+    *plan = numbers;
     Line::Boot { domain }
 }
 
-// A line: the bytes before its line feed. The numbers of a boot are put into the plan; of the plan behind any other line nothing is said.
+// A line: the bytes before its line feed. The numbers of a readable boot are put into the plan; any other line leaves it as it was.
 pub fn read_line(s: &[u8], plan: &mut [u64; BOOT_NUMBERS]) -> Line
-    ensures { λ r. ⌜ reads r (now (plan .exit)) ≡ lineOf (now (s .entry)) ⌝ }
+    ensures { λ r. ⌜ ReadAs r (now (plan .entry)) (now (plan .exit)) (lineOf (now (s .entry))) ⌝ }
 {
     if s.len() > LINE_BYTES {
-        return Line::Unreadable;
+        return Line::Answered(1);
     }
     let d = find(s, 0, 44);
     let Field::Number(domain) = number(&s[..d]) else {
-        return Line::Unreadable;
+        return Line::Answered(1);
     };
     if d == s.len() {
-        return Line::Unreadable;
+        return Line::Answered(1);
     }
     let from = d + 1;
     let e = find(s, from, 44);
     let Letters::Known(named) = letters_of(&s[from..e]) else {
-        return Line::Unreadable;
+        return Line::Answered(1);
     };
     match named {
         Named::Boot => return read_boot(domain, &s[e..], plan),

@@ -30,7 +30,7 @@ use Rattle.calls.specs.declared.Altered.{Altered}
 use Rattle.calls.specs.declared.Moved.{Moved}
 use Rattle.lines.specs.Reading.{bootBy, callBy, reads}
 use Rattle.lines.specs.declared.Line.{Line}
-use Rattle.lines.specs.declared.Line.the-variants.{Unreadable, Boot, Call}
+use Rattle.lines.specs.declared.Line.the-variants.{Answered, Boot, Call}
 use Rattle.text.specs.Answer.{printed, printedEnd}
 use Rattle.replies.specs.Reply.{stateAfter, reply}
 use Rattle.replies.specs.Told.{Told, values-few}
@@ -57,10 +57,10 @@ objectTold t x d f c number words words′ out at out′ r =
     (s : State) → s .table ≡ t → s .accounts ≡ x → (d < 4 → domainAt s d .active ≡ f)
     → Told number out at out′ (r .at) (world (withEstate s (r .place) (r .estate)) words′) (reply unchecked (world s words) (callBy d (OnObject c)))
 
--- a line that is not readable is answered 1
-pub unread-kind : (n : ℕ) {l : Line} → l ≡ Unreadable → IsKind (kind.Known 1) n l
+-- a line that is answered at once
+pub answered-kind : (n a : ℕ) {l : Line} → l ≡ Answered a → IsKind (kind.Known a) n l
 unfolding reply
-unread-kind n e plan w h = rw e
+answered-kind n a e plan w h = rw e
 
 -- a caller that is known, with a store of n words
 pub known-caller : (n d k : ℕ) → callerOf n d ≡ Caller·Known k → (n ≡ 8192) × (k < 4) × (k ≡ d)

@@ -9,7 +9,7 @@ use Rattle.calls.specs.Boot.{boot}
 use Rattle.calls.specs.declared.Call.{Call}
 use Rattle.calls.specs.declared.Answer.{Answer}
 use Rattle.calls.specs.declared.Answer.the-variants.{Done, Refused}
-use Rattle.lines.specs.Reading.{Reading, unreadable, bootBy, callBy}
+use Rattle.lines.specs.Reading.{Reading, answered, bootBy, callBy}
 
 -- what a line is answered with: a number, what stands behind it, and the state and store after it
 pub record Reply : Type 0 where
@@ -21,9 +21,9 @@ pub record Reply : Type 0 where
 abbrev pub Carrying : Type 0
 Carrying = World → ℕ → Call → Result
 
--- a line that is not readable is answered 1, and changes nothing
-abbrev pub unread : World → Reply
-unread w = record { number = 1; values = 0 ∷ []; world = w }
+-- a line that is answered at once, as by 1 where it is not readable, changes nothing
+abbrev pub atOnce : ℕ → World → Reply
+atOnce number w = record { number = number; values = 0 ∷ []; world = w }
 
 -- the result of a call, as a reply
 abbrev pub called : Result → Reply
@@ -47,6 +47,6 @@ bootReply w d plan = bootedFrom w (boot (w .words) d plan)
 
 -- what is answered to a line
 unfoldable pub reply : Carrying → World → Reading → Reply
-reply carry w unreadable = unread w
+reply carry w (answered number) = atOnce number w
 reply carry w (bootBy d plan) = bootReply w d plan
 reply carry w (callBy d c) = called (carry w d c)

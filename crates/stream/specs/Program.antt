@@ -15,7 +15,7 @@ use Rattle.calls.specs.Laws.Booted.{boot-sound}
 use Rattle.calls.specs.declared.Answer.{Answer}
 use Rattle.calls.specs.declared.Answer.the-variants.{Done, Refused}
 use Rattle.lines.specs.Grammar.{lineOf}
-use Rattle.lines.specs.Reading.{Reading, unreadable, bootBy, callBy}
+use Rattle.lines.specs.Reading.{Reading, answered, bootBy, callBy}
 use Rattle.replies.specs.Reply.{called, reply, stateAfter}
 use Rattle.stream.specs.Run.{Progress, lineDone, withLine, onByteBy, extended, onByte, header, started, lastLine, output}
 use Rattle.stream.specs.Feed.{heldByte, onHeld, cut, joined}
@@ -25,14 +25,14 @@ use Rattle.stream.specs.Pieces.{writtenFor, pieces-whole}
 -- on a sound state a line is answered the same without check 3
 reply-unchecked : (w : World) (l : Reading) → sound (w .state) ≡ true → reply unchecked w l ≡ reply step w l
 unfolding reply
-reply-unchecked w unreadable h = refl
+reply-unchecked w (answered number) h = refl
 reply-unchecked w (bootBy d plan) h = refl
 reply-unchecked w (callBy d c) h = ap called (sym (sound-unchecked w d c h))
 
 -- and leaves a sound state
 reply-sound : (w : World) (l : Reading) → sound (w .state) ≡ true → sound (reply step w l .world .state) ≡ true
 unfolding reply
-reply-sound w unreadable h = h
+reply-sound w (answered number) h = h
 reply-sound w (bootBy d plan) h = go (boot (w .words) d plan .outcome .answer)
   where
     go : (a : Answer) → sound (stateAfter (w .state) a (boot (w .words) d plan .outcome .state)) ≡ true

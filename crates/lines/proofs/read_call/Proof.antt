@@ -7,7 +7,7 @@ use Rattle.lines.proofs.read_call.Tie as tie
 pub read-call-spec : {M : Type 1} → statement M
 read-call-spec =
     tie.close
-    (tie.spec (λ c κs. search needs) (λ c. search needs) (λ c. search needs)
-    (λ c plan. given-bad _ _ _ (sym (c .enum-told .given .1) ∙ c .before .before .read-arguments .ensures))
-    (λ c κs. search needs)
-    (λ c plan. c .call-of .ensures plan ∙ given-numbers _ _ _ (sym (c .before .before .n .given .1) ∙ c .before .before .before .before .read-arguments .ensures)))
+    (tie.spec (λ c κs. search needs) (λ c. search needs)
+    (λ c plan. given-bad _ _ _ (sym (c .before .arguments .given .1) ∙ c .before .before .before .read-arguments .ensures))
+    (λ c. search needs) (λ c κs. search needs)
+    (λ c plan. c .call-of .ensures plan ∙ given-numbers _ _ _ (sym (c .before .before .arguments2 .given .1) ∙ c .before .before .before .before .read-arguments .ensures)))
