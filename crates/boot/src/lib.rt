@@ -143,7 +143,8 @@ fn booted(store: &mut [u64], plan: [u64; BOOT_NUMBERS]) -> Outcome
     answered(boot_state(plan), Answer::Done(0))
 }
 
-// BT by a domain, with its numbers: home passwords, limits, home accounts and sets.
+// BT by a domain, with its numbers: home passwords, limits, home accounts and sets. The paper's number and values of its answer:
+// `answer-numbers`, `boot-refused-numbers` and `boot-done-numbers` in `calls`, specs/Laws/Numbers.antt.
 pub fn boot(store: &mut [u64], d: u64, plan: [u64; BOOT_NUMBERS]) -> Outcome
     ensures { λ r. ⌜ result r (now (store .exit)) ≡ boot (now (store .entry)) d plan ⌝ }
 {

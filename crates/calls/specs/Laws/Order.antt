@@ -14,7 +14,7 @@ use Rattle.judge.specs.Judged.{judged}
 use Rattle.calls.specs.Answers.{refusalNumber, refusalPlace, refusals, numbered, numberOf}
 use Rattle.calls.specs.View.{World, Want, nothing, rights, View, Check, check, firstFailing}
 use Rattle.calls.specs.Rules.{rule, wanted, presented, grantedCheck, presentedCheck, view, early, late, checks}
-use Rattle.calls.specs.Step.{stepBy, step, refused, concluded, storeCheck, soundCheck}
+use Rattle.calls.specs.Step.{stepBy, step, concluded, storeCheck, soundCheck}
 use Rattle.calls.specs.declared.Call.{Call}
 use Rattle.calls.specs.declared.Call.the-variants.{OnStore, OnObject, OnDomain}
 use Rattle.calls.specs.declared.Access.the-variants.{Read, Write, Execute, Lookup}
@@ -213,8 +213,3 @@ module _ (w : World) (d : ℕ) (c : Call) where
   -- THE EARLIEST PLACE ANSWERS: no check that fails has an earlier one
   pub earliest-answers : (why : Refusal) → step w d c .outcome .answer ≡ Refused why → FailFrom (refusalPlace why) (allChecks w d c)
   earliest-answers why h = first-earliest 2 (allChecks w d c) why (checks-ascend w d c (view judged w d c)) (step-refused why .0 h)
-
-  -- a refused call gives the world back that came in
-  pub refused-is : (why : Refusal) → step w d c .outcome .answer ≡ Refused why → step w d c ≡ refused w why
-  unfolding stepBy
-  refused-is why h = ap (λ o. concluded o w d c (view judged w d c)) (step-refused why .0 h)
