@@ -141,7 +141,8 @@ pub fn unchecked(s: State, store: &mut [u64], d: u64, call: Call) -> Outcome
     }
 }
 
-// A call by a domain.
+// A call by a domain. The paper's number and values of its answer are those of `step`, case by case: `answer-numbers` and the laws behind it
+// in `calls`, specs/Laws/Numbers.antt.
 pub fn apply(s: State, store: &mut [u64], d: u64, call: Call) -> Outcome
     ensures { λ r. ⌜ result r (now (store .exit)) ≡ step (world s (now (store .entry))) d call ⌝ }
 {

@@ -8,6 +8,7 @@ use calls::caller_of;
 use calls::replies::answered;
 use calls::words::zero_words;
 use plan::plan_ok;
+use rights::Rights;
 use state::Accounts;
 use state::Capability;
 use state::Domain;
@@ -115,7 +116,7 @@ fn home_pair(store: &mut [u64], plan: [u64; BOOT_NUMBERS], d: usize)
     requires { ⌜ (d < 4) × (length (now store) ≡ 8192) ⌝ }
     ensures { λ _. ⌜ now (store .exit) ≡ homePair plan d (now (store .entry)) ⌝ }
 {
-    store[2048 * d] = 32 * d as u64 * 256 + 15;
+    store[2048 * d] = 32 * d as u64 * 256 + Rights::OWNER.bits as u64;
     store[2048 * d + 1] = plan[d];
 }
 
@@ -143,7 +144,8 @@ fn booted(store: &mut [u64], plan: [u64; BOOT_NUMBERS]) -> Outcome
     answered(boot_state(plan), Answer::Done(0))
 }
 
-// BT by a domain, with its numbers: home passwords, limits, home accounts and sets.
+// BT by a domain, with its numbers: home passwords, limits, home accounts and sets. The paper's number and values of its answer:
+// `answer-numbers`, `boot-refused-numbers` and `boot-done-numbers` in `calls`, specs/Laws/Numbers.antt.
 pub fn boot(store: &mut [u64], d: u64, plan: [u64; BOOT_NUMBERS]) -> Outcome
     ensures { λ r. ⌜ result r (now (store .exit)) ≡ boot (now (store .entry)) d plan ⌝ }
 {

@@ -33,7 +33,7 @@ slices image store values = record { image = image; store = store; values = valu
 abbrev pub told : ℕ → Slices → Told
 told n after = record { number = n; after = after }
 
--- a refusal leaves image and store as they are
+-- refused: what `refused-changes-nothing` (calls) is for the slices, with the values cleared
 abbrev pub refusedBy : ℕ → Slices → Told
 refusedBy n s = told n (slices (s .image) (s .store) (cleared (s .values)))
 

@@ -2,6 +2,7 @@
 use Prim.Native.Nat.{ℕ}
 use mathlib.Core.Bool.{cond}
 use mathlib.Core.List.{List, [], _∷_}
+use mathlib.Core.Option.{Option, none, some}
 use lib.Dec.{eqb}
 use lib.ListN.{take, replicate}
 use Rattle.calls.specs.declared.Refusal.{Refusal}
@@ -41,6 +42,29 @@ refusalPlace LimitPassed = 11
 refusalPlace HasPassword = 12
 refusalPlace Full = 13
 refusalPlace Missing = 14
+
+-- every refusal, in checking order
+abbrev pub refusals : List Refusal
+refusals =
+    StoreLength
+    ∷ Unsound
+    ∷ NoDomain
+    ∷ OutOfRange
+    ∷ Locked
+    ∷ NotGranted
+    ∷ NotEntry
+    ∷ NoRun
+    ∷ NotPermitted
+    ∷ LimitPassed
+    ∷ HasPassword
+    ∷ Full
+    ∷ Missing
+    ∷ []
+
+-- the refusal in a list that has a number
+abbrev pub numbered : ℕ → List Refusal → Option Refusal
+numbered n [] = none
+numbered n (r ∷ rs) = cond (eqb (refusalNumber r) n) (some r) (numbered n rs)
 
 -- a done call answers 0
 abbrev pub numberOf : Answer → ℕ

@@ -8,6 +8,7 @@ use lib.ListN.{getD, set, replicate}
 use Rattle.bounded.specs.Every.{below}
 use Rattle.bounded.specs.Fill.{tabulate}
 use Rattle.bounded.specs.Sum.{total}
+use Rattle.rights.specs.Modes.{owner}
 use Rattle.state.specs.Places.{freeObject, emptyFrame, emptyState}
 use Rattle.state.specs.Update.{newObject, onlyList}
 use Rattle.state.specs.Pages.{inSet}
@@ -58,7 +59,7 @@ bootState plan =
 
 -- the first pair of the object names it too
 unfoldable pub homePair : List ℕ → ℕ → List ℕ → List ℕ
-homePair plan d words = set (set words (2048 * d) (32 * d * 256 + 15)) (2048 * d + 1) (homeOf plan d)
+homePair plan d words = set (set words (2048 * d) (32 * d * 256 + owner)) (2048 * d + 1) (homeOf plan d)
 
 -- all other words are zero
 unfoldable pub bootWords : List ℕ → List ℕ

@@ -5,6 +5,8 @@ pub mod Order
 pub mod Passed
 pub mod Levels
 pub mod Granted
+pub mod Lookup
+pub mod Numbers
 pub mod Locks
 pub mod Searched
 pub mod Fit

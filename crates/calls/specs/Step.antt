@@ -41,7 +41,7 @@ answerOf r = numberOf (r .outcome .answer) ∷ valuesOf (r .outcome)
 abbrev pub answeredWith : State → Answer → Outcome
 answeredWith s a = record { answer = a; fields = noFields; state = s }
 
--- a refused call changes nothing
+-- a refused call's outcome (`refused-changes-nothing`, Laws/Passed.antt)
 abbrev pub refusedWith : State → Refusal → Outcome
 refusedWith s r = answeredWith s (Refused r)
 

@@ -13,6 +13,7 @@ use borrow.Author.Tests.{eqb-true}
 use Rattle.bounded.specs.Bools.{same-or-not, cond-ind}
 use Rattle.bounded.specs.Fill.{tabulate, tabulate-at}
 use Rattle.bounded.specs.Sum.{total-none}
+use Rattle.rights.specs.Modes.{destroy, owner}
 use Rattle.state.specs.Places.{noObject, noEstate, freeObject, objectAt, estateAt, domainAt, setAt}
 use Rattle.state.specs.Pages.{pagesOn, estatePages}
 use Rattle.state.specs.Update.{newObject, addPassword, dropPassword, withObject, removeObject}
@@ -116,10 +117,10 @@ module _ (G : Group) where
           (λ p. outsider-outside G x (i .apart) d u (m .0) (m .1) (s .rest .1 .0)) (i .outside .estates d m),
       (tt, tt),
     )
-    done-out (OnObject (Delete b)) s = (goes-out b 8 _, tt)
-    done-out (OnObject (AddPassword b k v)) s = (becomes-out b 15 _ _ (λ o. o), tt)
-    done-out (OnObject (DropPassword b k)) s = (becomes-out b 15 _ _ (λ o. drop-out x _ k o), tt)
-    done-out (OnObject (Register b k l es)) s = (becomes-out b 15 _ _ (λ o. o), tt)
+    done-out (OnObject (Delete b)) s = (goes-out b destroy _, tt)
+    done-out (OnObject (AddPassword b k v)) s = (becomes-out b owner _ _ (λ o. o), tt)
+    done-out (OnObject (DropPassword b k)) s = (becomes-out b owner _ _ (λ o. drop-out x _ k o), tt)
+    done-out (OnObject (Register b k l es)) s = (becomes-out b owner _ _ (λ o. o), tt)
     done-out (OnDomain (Insert j l)) s = (λ m. tt, tt)
     done-out (OnDomain (Remove j)) s = (λ m. tt, tt)
     done-out (OnDomain Get) s = tt

@@ -8,6 +8,7 @@ use native.Mathlib.Omega.{arith}
 use lib.ListN.{set}
 use Rattle.bounded.specs.Bools.{same-or-not}
 use Rattle.bounded.specs.Fill.{tabulate}
+use Rattle.rights.specs.Modes.{owner}
 use Rattle.state.specs.Places.{noEstate, noDomain}
 use Rattle.state.specs.Pages.{mayCharge}
 use Rattle.calls.specs.Answers.{numberOf}
@@ -63,9 +64,9 @@ module _ (G : Group) (plan plan′ : List ℕ) (same : (d : ℕ) → member G d 
       → wordsPart G (homePair plan d words) ≡ wordsPart G (homePair plan′ d words′)
   unfolding wordsPart homePair
   pair-start d words words′ e =
-      mask-set-same (insideAddress G) 0 (set words (2048 * d) (32 * d * 256 + 15)) (set words′ (2048 * d) (32 * d * 256 + 15)) (2048 * d + 1)
+      mask-set-same (insideAddress G) 0 (set words (2048 * d) (32 * d * 256 + owner)) (set words′ (2048 * d) (32 * d * 256 + owner)) (2048 * d + 1)
       (homeOf plan d) (homeOf plan′ d)
-      (mask-set-same (insideAddress G) 0 words words′ (2048 * d) (32 * d * 256 + 15) (32 * d * 256 + 15) e (λ k. refl))
+      (mask-set-same (insideAddress G) 0 words words′ (2048 * d) (32 * d * 256 + owner) (32 * d * 256 + owner) e (λ k. refl))
       (λ k. let own : (2048 * d + 1) / 64 / 32 ≡ d = omega arith in same d (rw own at k))
 
   words-start : wordsPart G (bootWords plan) ≡ wordsPart G (bootWords plan′)

@@ -3,6 +3,7 @@ use Prim.Native.Nat.{ℕ, _+_}
 use mathlib.Core.Bool.{Bool, not, cond, _&&_, _||_}
 use lib.Dec.{leb, ltb, eqb}
 use Rattle.bounded.specs.Search.{first}
+use Rattle.rights.specs.Modes.{pdx}
 use Rattle.state.specs.Places.{freeObject, objectAt, passwordAt, estateOf}
 use Rattle.state.specs.Extent.{free}
 use Rattle.state.specs.declared.Object.{Object}
@@ -64,7 +65,7 @@ ordinaryMode o word = cond (eqb word 0) 0 (first (λ k. eqb (passwordAt o k .wor
 
 -- the mode that a password has for the object; that of a registration has the mode 16, P alone
 unfoldable pub modeOf : Object → ℕ → ℕ
-modeOf o word = cond (not (eqb word 0) && eqb (o .registration .password) word) 16 (ordinaryMode o word)
+modeOf o word = cond (not (eqb word 0) && eqb (o .registration .password) word) pdx (ordinaryMode o word)
 
 -- the object has the password, that of its registration included
 unfoldable pub hasPassword : Object → ℕ → Bool

@@ -6,6 +6,7 @@ use lib.Dec.{leb, ltb, eqb}
 use lib.ListN.{set, replicate}
 use Rattle.bounded.specs.Fill.{tabulate}
 use Rattle.bounded.specs.Shift.{putIn, takenOut}
+use Rattle.rights.specs.Modes.{owner}
 use Rattle.state.specs.Places.{noCapability, noPassword, freeRegistration, freeObject, emptyFrame, slotAt, savedAt, passwordAt, objectAt}
 use Rattle.state.specs.Lookup.{placeOf, freePasswordPlace, placeAbove}
 use Rattle.state.specs.declared.Capability.{Capability}
@@ -75,7 +76,7 @@ newObject base pages word account =
     record {
       base = base;
       pages = pages;
-      passwords = record { word = word; mode = 15 } ∷ replicate 3 noPassword;
+      passwords = record { word = word; mode = owner } ∷ replicate 3 noPassword;
       registration = freeRegistration;
       account = account;
     }

@@ -3,6 +3,7 @@ use crate::Capability;
 use crate::Object;
 use crate::Password;
 use crate::Registration;
+use rights::Rights;
 ghost use mathlib.Core.Path.{_≡_};
 ghost use Rattle.state.specs.Places.{freeRegistration, freeObject};
 ghost use Rattle.state.specs.Lookup.{hasBase, placeOf, freePasswordPlace, ordinaryMode, modeOf, hasPassword};
@@ -76,7 +77,7 @@ pub fn mode_of(o: Object, word: u64) -> u8
 {
     let g = o.registration;
     if (word != 0) & (g.password == word) {
-        return 16;
+        return Rights::PDX.bits;
     }
     ordinary_mode(o, word)
 }

@@ -1,4 +1,5 @@
 // Another object: new, with a password more or less, or with another registration.
+use rights::Rights;
 use state::Object;
 use state::Password;
 use state::Registration;
@@ -21,7 +22,7 @@ pub fn new_object(base: u8, pages: u8, word: u64, account: u8) -> Object
         passwords: [
             Password {
                 word: word,
-                mode: 15,
+                mode: Rights::OWNER.bits,
             },
             none,
             none,

@@ -1,4 +1,4 @@
--- A refused C call leaves image and store byte for byte, and clears the values: document 02, T-02.
+-- What `refused-changes-nothing` (calls) is for a C call, byte for byte; the values are cleared: document 02, T-02.
 use Prim.Native.Nat.{ℕ}
 use mathlib.Core.Path.{_≡_, refl}
 use mathlib.Core.Bool.{Bool, true, false, cond, _&&_}
@@ -29,7 +29,7 @@ checked-leaves serves s r = go (eqb (length (s .store)) 65536) (eqb (length (s .
     go true false h = refl
     go false y h = refl
 
--- A REFUSED CALL THROUGH C CHANGES NOTHING
+-- `refused-changes-nothing` THROUGH C
 pub refused-leaves : (s : Slices) (d : ℕ) (c : Call) → Left s (called s d c)
 unfolding called
 refused-leaves s d c = checked-leaves _ s _

@@ -25,7 +25,7 @@ use Rattle.calls.specs.View.{Check, check, firstFailing}
 use Rattle.calls.specs.Step.{refused, world, result, doneWith, storeCheck}
 use Rattle.calls.specs.Boot.{homeOf, accountOf, homeEstate, homeDomain, bootState, homePair, bootWords, booted, planOk, bootedBy, boot}
 use Rattle.calls.specs.Laws.Order.{ascending, AllHold, FailsFirst, none-fails, first-fails, Answering, answers-refused, answers-done}
-use Rattle.calls.specs.Laws.Passed.{Unchanged}
+use Rattle.calls.specs.Laws.Passed.{KeptIfRefused}
 use Rattle.calls.specs.Laws.Plan.{plan-bounds, boot-accounts-sound}
 use borrow.Author.Tests.{eq-eqb, lt-ltb}
 use Rattle.calls.specs.Parts.{callerOf}
@@ -46,7 +46,7 @@ home-domain : (plan : List ℕ) (d : ℕ) → d < 4 → domainOk (homeDomain pla
 unfolding homeDomain
 home-domain plan d l = active-sound emptyDomain _ (only-sound (record { page = 32 * d; password = homeOf plan d }) (omega arith)) empty-domain
 
--- the state of a boot is sound, whatever its numbers are in range
+-- the state of a boot is sound, whatever numbers in range it is given
 pub boot-state-sound : (plan : List ℕ) → planOk plan ≡ true → sound (bootState plan) ≡ true
 unfolding bootState
 boot-state-sound plan h =
@@ -84,7 +84,7 @@ module _ (words : List ℕ) (d : ℕ) (plan : List ℕ) where
   boot-unknown why h =
       caller-unknown (λ x. refused (world emptyState words) why ≡ booted plan words x) words d (check OutOfRange (planOk plan) ∷ []) why h refl
 
-  -- they come in the order of their numbers
+  -- they come in checking order
   pub boot-ascends : ascending 2 (bootChecks words d plan) ≡ true
   unfolding ascending
   boot-ascends = refl
@@ -100,10 +100,10 @@ module _ (words : List ℕ) (d : ℕ) (plan : List ℕ) where
   pub boot-first : (why : Refusal) → boot words d plan .outcome .answer ≡ Refused why ↔ FailsFirst (bootChecks words d plan) why
   boot-first why = Iff·trans (boot-said why) (first-fails (bootChecks words d plan) why)
 
-  -- a refused one gives the empty state, and the store as it was
-  pub boot-refused : (why : Refusal) → boot words d plan .outcome .answer ≡ Refused why → Unchanged (world emptyState words) (boot words d plan)
+  -- what `refused-changes-nothing` is for BT, which takes no state and gives the empty one
+  pub boot-refused : KeptIfRefused (world emptyState words) (boot words d plan)
   unfolding boot
-  boot-refused why h = rw (boot-said why .0 h) (record { state = refl; words = refl; value = refl; fields = refl })
+  boot-refused why h = rw (boot-said why .0 h) (record { number = refl; value = refl; fields = refl; state = refl; words = refl })
 
   -- it is done exactly where each of them holds
   pub boot-hold : numberOf (boot words d plan .outcome .answer) ≡ 0 ↔ AllHold (bootChecks words d plan)
@@ -115,7 +115,7 @@ module _ (words : List ℕ) (d : ℕ) (plan : List ℕ) where
   unfolding boot
   boot-done h = ap (booted plan words) (none-fails (bootChecks words d plan) .1 (boot-hold .0 h))
 
-  -- 8,192 words
+  -- its store has 8,192 words
   pub boot-long : numberOf (boot words d plan .outcome .answer) ≡ 0 → length (boot words d plan .words) ≡ 8192
   boot-long h = rw (boot-done h) (boot-words-length plan)
 

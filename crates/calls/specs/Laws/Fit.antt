@@ -10,6 +10,7 @@ use borrow.Author.Tests.{leb-true, ltb-true, lt-ltb, le-ltb, ne-eqb, not-true}
 use Rattle.bounded.specs.Bools.{and-left, and-right, guarded, unless, cond-ind}
 use Rattle.bounded.specs.Every.{below-at}
 use Rattle.bounded.specs.Fill.{tabulate-at}
+use Rattle.rights.specs.Modes.{destroy, pdx, owner}
 use Rattle.state.specs.Places.{objectAt, estateAt, domainAt}
 use Rattle.state.specs.Extent.{covers, apart, liesIn}
 use Rattle.state.specs.Lookup.{hasBase, based, placeBased, objectBased, objectCovering, hasRoom, hasPassword}
@@ -138,10 +139,10 @@ registered-fit o d b k l es range inside new stands h =
     (registered-sound o k l es (ltb-true _ 128 page) (ltb-true 0 _ some) (leb-true _ 4 few) inside) stands h
 
 -- the list of a registration that P is granted on names a page
-entered-list : (w : World) (f : Frame) (a : ℕ) → sound (w .state) ≡ true → isSome (search judged w f (rights (Address a) 16)) ≡ true
-    → objectOf (search judged w f (rights (Address a) 16)) .registration .list .page < 128
+entered-list : (w : World) (f : Frame) (a : ℕ) → sound (w .state) ≡ true → isSome (search judged w f (rights (Address a) pdx)) ≡ true
+    → objectOf (search judged w f (rights (Address a) pdx)) .registration .list .page < 128
 entered-list w f a h s =
-    let g = was-granted w f (Address a) 16 s in
+    let g = was-granted w f (Address a) pdx s in
     let o = objectCovering (w .state .table) (a / 64) in
     let b : ObjectBounds o (a / 64 / 32) = covering-answered (w .state) (a / 64) h .bounds (g .pages) in
     rw (g .judgement) (registration-parts o (b .registration) (called-registered w f a (g .pair) h (g .judgement)) .list)
@@ -161,25 +162,25 @@ done-fit w d (OnStore (Lookup a r)) h p = tt
 done-fit w d (OnObject (Create a n k x)) h p =
     let r = new-fit (estateAt (w .state .table) d) d a n k x (p .range) (state-parts (w .state) h .estate d (p .domain)) (p .rest .0) (p .rest .1 .1 .1 .0) in
     (r .0, (omega (arith, p .domain, r .1), tt))
-done-fit w d (OnObject (Delete b)) h p = (remove-sound _ (b / 32) _ (owned-estate w (domainAt (w .state) d .active) b 8 h (p .rest .0)), tt)
+done-fit w d (OnObject (Delete b)) h p = (remove-sound _ (b / 32) _ (owned-estate w (domainAt (w .state) d .active) b destroy h (p .rest .0)), tt)
 done-fit w d (OnObject (AddPassword b k m)) h p =
     let f = domainAt (w .state) d .active in
-    let o = objectOf (owned w f b 15) in
+    let o = objectOf (owned w f b owner) in
     let legal = and-right (ltb b 128 && not (eqb k 0)) _ (p .range) in
     let word = not-zero k (not-true _ (and-right (ltb b 128) _ (and-left _ _ (p .range)))) in (
-      owned-becomes w f b 15 h (p .rest .0) _ (add-run o k m)
-          (add-sound o (b / 32) k m word (not-true _ (p .rest .1 .0)) legal (owned-pages w f b 15 h (p .rest .0)) (owned-sound w f b 15 h (p .rest .0))),
+      owned-becomes w f b owner h (p .rest .0) _ (add-run o k m)
+          (add-sound o (b / 32) k m word (not-true _ (p .rest .1 .0)) legal (owned-pages w f b owner h (p .rest .0)) (owned-sound w f b owner h (p .rest .0))),
       tt,
     )
 done-fit w d (OnObject (DropPassword b k)) h p =
     let f = domainAt (w .state) d .active in
-    let o = objectOf (owned w f b 15) in
-    (owned-becomes w f b 15 h (p .rest .0) _ (drop-run o k) (drop-sound o (b / 32) k (owned-pages w f b 15 h (p .rest .0)) (owned-sound w f b 15 h (p .rest .0))), tt)
+    let o = objectOf (owned w f b owner) in
+    (owned-becomes w f b owner h (p .rest .0) _ (drop-run o k) (drop-sound o (b / 32) k (owned-pages w f b owner h (p .rest .0)) (owned-sound w f b owner h (p .rest .0))), tt)
 done-fit w d (OnObject (Register b k l es)) h p =
     let f = domainAt (w .state) d .active in
-    let o = objectOf (owned w f b 15) in (
-      owned-becomes w f b 15 h (p .rest .0) _ (register-run o (registration k l es))
-          (registered-fit o (b / 32) b k l es (p .range) (p .rest .1 .1 .0) (p .rest .1 .1 .1 .0) (owned-pages w f b 15 h (p .rest .0)) (owned-sound w f b 15 h (p .rest .0))),
+    let o = objectOf (owned w f b owner) in (
+      owned-becomes w f b owner h (p .rest .0) _ (register-run o (registration k l es))
+          (registered-fit o (b / 32) b k l es (p .range) (p .rest .1 .1 .0) (p .rest .1 .1 .1 .0) (owned-pages w f b owner h (p .rest .0)) (owned-sound w f b owner h (p .rest .0))),
       tt,
     )
 done-fit w d (OnDomain (Insert i l)) h p =

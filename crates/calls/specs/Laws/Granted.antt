@@ -28,6 +28,7 @@ use Rattle.calls.specs.declared.ObjectCall.the-variants.{Delete, AddPass
 use Rattle.calls.specs.declared.DomainCall.the-variants.{Insert, PdxCall}
 use Rattle.calls.specs.declared.Presented.{Presented}
 use Rattle.calls.specs.declared.Entries.{Entries}
+use Rattle.calls.specs.declared.Refusal.the-variants.{NotGranted}
 
 module _ (w : World) (d : ℕ) (c : Call) where
   -- checks 2 to 6, and those of number 7
@@ -68,10 +69,10 @@ module _ (w : World) (d : ℕ) (c : Call) where
       presented-hold none v e = (λ h. refl, λ h. tt)
       presented-hold (some l) v e = (λ h. sym e ∙ h .0, λ h. (e ∙ h, tt))
 
-  sevens-level : Level 7 sevens
+  sevens-level : Level NotGranted sevens
   sevens-level = go (wanted c) (presented c)
     where
-      go : (want : Want) (p : Option Presented) → Level 7 (grantedCheck want (view judged w d c) ++ presentedCheck p (view judged w d c))
+      go : (want : Want) (p : Option Presented) → Level NotGranted (grantedCheck want (view judged w d c) ++ presentedCheck p (view judged w d c))
       go nothing none = tt
       go nothing (some l) = (refl, tt)
       go (rights target r) none = (refl, tt)
@@ -89,7 +90,7 @@ module _ (w : World) (d : ℕ) (c : Call) where
   unfolding checks early late view
   answers-seven =
       Iff·trans
-      (answers-level w d c 7 front sevens later refl (omega arith) (omega arith) (omega arith, (omega arith, (omega arith, (omega arith, (omega arith, tt))))) sevens-level
+      (answers-level w d c NotGranted front sevens later refl (omega arith, (omega arith, (omega arith, (omega arith, (omega arith, tt))))) sevens-level
       (rest-ascends d c (view judged w d c)))
       (Iff·and front-hold (Iff·not sevens-hold))
 

@@ -32,6 +32,7 @@ use Rattle.calls.specs.declared.Call.the-variants.{OnStore, OnObject, On
 use Rattle.calls.specs.declared.Access.the-variants.{Read, Write, Execute, Lookup}
 use Rattle.calls.specs.declared.ObjectCall.the-variants.{Create, Delete, AddPassword, DropPassword, Register}
 use Rattle.calls.specs.declared.DomainCall.the-variants.{Insert, Remove, Get, Lock, PdxCall, PdxReturn}
+use Rattle.calls.specs.declared.Refusal.the-variants.{Locked}
 
 -- a slot from the locked count on, without the whole lock
 from-locked : (i n : ℕ) (b : Bool) → (leb n i && not b) ≡ not (ltb i n || b)
@@ -94,7 +95,7 @@ module _ (w : World) (d : ℕ) (c : Call) where
   unfolding checks early view
   answers-six =
       Iff·trans
-      (answers-level w d c 6 (toFive w d c) (six w d c) (late d c (view judged w d c)) refl (omega arith) (omega arith) (omega arith, (omega arith, (omega arith, (omega arith, tt)))) (refl, tt)
+      (answers-level w d c Locked (toFive w d c) (six w d c) (late d c (view judged w d c)) refl (omega arith, (omega arith, (omega arith, (omega arith, tt)))) (refl, tt)
       (late-ascends d c (view judged w d c)))
       (Iff·and (comes-hold w d c) six-fails)
 

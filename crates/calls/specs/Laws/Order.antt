@@ -1,6 +1,6 @@
 -- The order of the checks: document 01, "In checking order", with 14 and 15 behind 9 (document 02, T-05). The places never fall, and the first
 -- check that fails answers.
-use Prim.Native.Nat.{ℕ, _≤_, min}
+use Prim.Native.Nat.{ℕ, zero, suc, _<_, _≤_}
 use mathlib.Core.Path.{_≡_, refl, sym, ap, subst, _∙_}
 use mathlib.Core.Bool.{Bool, true, false, _&&_, true≢false}
 use mathlib.Core.List.{List, [], _∷_, _++_}
@@ -11,10 +11,10 @@ use lib.Dec.{leb}
 use borrow.Author.Tests.{leb-true, le-leb}
 use Rattle.bounded.specs.Bools.{and-left, and-right, and-both}
 use Rattle.judge.specs.Judged.{judged}
-use Rattle.calls.specs.Answers.{refusalNumber, refusalPlace, numberOf}
+use Rattle.calls.specs.Answers.{refusalNumber, refusalPlace, refusals, numbered, numberOf}
 use Rattle.calls.specs.View.{World, Want, nothing, rights, View, Check, check, firstFailing}
 use Rattle.calls.specs.Rules.{rule, wanted, presented, grantedCheck, presentedCheck, view, early, late, checks}
-use Rattle.calls.specs.Step.{stepBy, step, refused, concluded, storeCheck, soundCheck}
+use Rattle.calls.specs.Step.{stepBy, step, concluded, storeCheck, soundCheck}
 use Rattle.calls.specs.declared.Call.{Call}
 use Rattle.calls.specs.declared.Call.the-variants.{OnStore, OnObject, OnDomain}
 use Rattle.calls.specs.declared.Access.the-variants.{Read, Write, Execute, Lookup}
@@ -142,37 +142,33 @@ first-earliest n (check r false ∷ cs) why a h =
     let k : refusalPlace why ≤ refusalPlace r = rw e (omega arith) in
     (λ f. k, ascend-from (refusalPlace why) (refusalPlace r) cs k (and-right (leb n (refusalPlace r)) _ a))
 
--- a refusal has another number than a done call
-pub refusal-number : (r : Refusal) → 2 ≤ refusalNumber r
-refusal-number StoreLength = omega arith
-refusal-number Unsound = omega arith
-refusal-number NoDomain = omega arith
-refusal-number OutOfRange = omega arith
-refusal-number Locked = omega arith
-refusal-number NotGranted = omega arith
-refusal-number NotEntry = omega arith
-refusal-number NoRun = omega arith
-refusal-number NotPermitted = omega arith
-refusal-number LimitPassed = omega arith
-refusal-number HasPassword = omega arith
-refusal-number Full = omega arith
-refusal-number Missing = omega arith
+-- a refusal is found by its number
+pub number-back : (r : Refusal) → numbered (refusalNumber r) refusals ≡ some r
+number-back StoreLength = refl
+number-back Unsound = refl
+number-back NoDomain = refl
+number-back OutOfRange = refl
+number-back Locked = refl
+number-back NotGranted = refl
+number-back NotEntry = refl
+number-back NoRun = refl
+number-back NotPermitted = refl
+number-back LimitPassed = refl
+number-back HasPassword = refl
+number-back Full = refl
+number-back Missing = refl
 
--- up to 9 a refusal's place is its number
-pub place-number : (r : Refusal) → min 10 (refusalPlace r) ≡ min 10 (refusalNumber r)
-place-number StoreLength = refl
-place-number Unsound = refl
-place-number NoDomain = refl
-place-number OutOfRange = refl
-place-number Locked = refl
-place-number NotGranted = refl
-place-number NotEntry = refl
-place-number NoRun = refl
-place-number NotPermitted = refl
-place-number LimitPassed = refl
-place-number HasPassword = refl
-place-number Full = refl
-place-number Missing = refl
+-- so two refusals never share a number,
+pub numbers-differ : (r q : Refusal) → refusalNumber r ≡ refusalNumber q → r ≡ q
+numbers-differ r q h = let e : some r ≡ some q = sym (number-back r) ∙ ap (λ n. numbered n refusals) h ∙ number-back q in cc
+
+-- and none has that of a done call
+pub refusal-number : (r : Refusal) → 0 < refusalNumber r
+refusal-number r = go (refusalNumber r) (number-back r)
+  where
+    go : (n : ℕ) → numbered n refusals ≡ some r → 0 < n
+    go zero h = let z : _≡_ {A = ℕ} 0 1 = cc in absurd (omega arith)
+    go (suc n) h = omega arith
 
 -- what is answered where no check fails, and where one does
 pub record Answering (answer : Option Refusal → Answer) : Type 0 where
@@ -217,8 +213,3 @@ module _ (w : World) (d : ℕ) (c : Call) where
   -- THE EARLIEST PLACE ANSWERS: no check that fails has an earlier one
   pub earliest-answers : (why : Refusal) → step w d c .outcome .answer ≡ Refused why → FailFrom (refusalPlace why) (allChecks w d c)
   earliest-answers why h = first-earliest 2 (allChecks w d c) why (checks-ascend w d c (view judged w d c)) (step-refused why .0 h)
-
-  -- a refused call gives the world back that came in
-  pub refused-is : (why : Refusal) → step w d c .outcome .answer ≡ Refused why → step w d c ≡ refused w why
-  unfolding stepBy
-  refused-is why h = ap (λ o. concluded o w d c (view judged w d c)) (step-refused why .0 h)

@@ -1,34 +1,36 @@
--- A call is refused and changes nothing, or it passes each check and is done.
+-- What a call comes to: it is refused, or passes each check and is done.
 use Prim.Native.Nat.{ℕ, _<_}
-use mathlib.Core.Path.{_≡_, refl}
+use mathlib.Core.Path.{_≡_, refl, ap}
 use mathlib.Core.Bool.{true}
 use mathlib.Core.List.{List, _∷_}
 use mathlib.Core.Logic.{_⊎_, inl, inr, ⊎-elim}
 use mathlib.Core.Option.{Option, none, some}
+use native.Mathlib.Omega.{arith}
 use lib.ListN.{length}
 use borrow.Author.Tests.{eqb-true, ltb-true}
 use Rattle.state.specs.Places.{domainAt}
 use Rattle.soundness.specs.Sound.{sound}
 use Rattle.judge.specs.Judged.{judged}
-use Rattle.calls.specs.Answers.{valueOf, noFields}
+use Rattle.calls.specs.Answers.{refusalNumber, numberOf, valueOf, noFields}
 use Rattle.calls.specs.View.{World, View, Check, firstFailing}
 use Rattle.calls.specs.Rules.{inRange, unlocked, early, view, late, checks}
 use Rattle.calls.specs.Step.{Result, refused, done, concluded, storeCheck, stepBy, uncheckedBy, step, unchecked}
-use Rattle.calls.specs.Laws.Order.{allChecks, AllHold, none-fails, refused-is}
+use Rattle.calls.specs.Laws.Order.{allChecks, AllHold, none-fails}
 use Rattle.calls.specs.declared.Call.{Call}
 use Rattle.calls.specs.declared.Refusal.{Refusal}
 use Rattle.calls.specs.declared.Answer.the-variants.{Refused}
 
--- the result of a refused call: the world that came in, the value 0, no fields
-pub record Unchanged (w : World) (r : Result) : Type 0 where
-  pub state : r .outcome .state ≡ w .state
-  pub words : r .words ≡ w .words
+-- the result of a call that is refused by `why`: its number, the value 0, no fields, and the state and the words that came in
+pub record Unchanged (w : World) (why : Refusal) (r : Result) : Type 0 where
+  pub number : numberOf (r .outcome .answer) ≡ refusalNumber why
   pub value : valueOf (r .outcome .answer) ≡ 0
   pub fields : r .outcome .fields ≡ noFields
+  pub state : r .outcome .state ≡ w .state
+  pub words : r .words ≡ w .words
 
--- DEMAND 1: A REFUSED CALL CHANGES NOTHING, and answers the value 0 and no fields
-pub refused-changes-nothing : (w : World) (d : ℕ) (c : Call) (why : Refusal) → step w d c .outcome .answer ≡ Refused why → Unchanged w (step w d c)
-refused-changes-nothing w d c why h = rw (refused-is w d c why h) (record { state = refl; words = refl; value = refl; fields = refl })
+-- the result is such a one wherever it is a refusal
+abbrev pub KeptIfRefused : World → Result → Type 0
+KeptIfRefused w r = (why : Refusal) → r .outcome .answer ≡ Refused why → Unchanged w why r
 
 -- every check from 4 on holds, and check 2
 pub record Passes (w : World) (d : ℕ) (c : Call) : Type 0 where
@@ -61,6 +63,19 @@ module _ (w : World) (d : ℕ) (c : Call) where
       go : (o : Option Refusal) → firstFailing cs ≡ o → Refuses w (concluded o w d c v) ⊎ (AllHold cs × (concluded o w d c v ≡ done w d c v))
       go none e = inr (none-fails cs .0 e, refl)
       go (some why) e = inl (why, refl)
+
+  kept : (cs : List Check) (v : View) → KeptIfRefused w (concluded (firstFailing cs) w d c v)
+  kept cs v why h = go (firstFailing cs) h
+    where
+      go : (o : Option Refusal) → concluded o w d c v .outcome .answer ≡ Refused why → Unchanged w why (concluded o w d c v)
+      go none h = let z : _≡_ {A = ℕ} 0 1 = cc in absurd (omega arith)
+      go (some r) h = let e : r ≡ why = cc in record { number = ap refusalNumber e; value = refl; fields = refl; state = refl; words = refl }
+
+  -- DEMAND 1: A REFUSED CALL CHANGES NOTHING, with check 3 and without it
+  pub refused-changes-nothing : KeptIfRefused w (step w d c) × KeptIfRefused w (unchecked w d c)
+  unfolding stepBy uncheckedBy
+  refused-changes-nothing =
+      (kept (allChecks w d c) (view judged w d c), kept (storeCheck w ∷ checks d c (view judged w d c)) (view judged w d c))
 
   -- a call is refused, or the state is sound, and it passes and is done
   pub step-cases : Refuses w (step w d c) ⊎ ((sound (w .state) ≡ true) × Does w d c (step w d c))

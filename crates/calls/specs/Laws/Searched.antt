@@ -4,6 +4,7 @@ use mathlib.Core.Path.{_≡_, refl}
 use mathlib.Core.Bool.{true}
 use native.Mathlib.Omega.{arith}
 use Rattle.rights.specs.Bits.{bit}
+use Rattle.rights.specs.Modes.{pdx}
 use Rattle.state.specs.Lookup.{objectCovering}
 use Rattle.state.specs.Laws.Extent.{not-zero}
 use Rattle.soundness.specs.Sound.{sound}
@@ -36,9 +37,9 @@ was-granted w f target r h = go (judged (w .state .table) (w .words) f target r)
 
 -- An object that P is granted on has a registration.
 pub called-registered : (w : World) (f : Frame) (a pair : ℕ) → sound (w .state) ≡ true
-    → judged (w .state .table) (w .words) f (Address a) 16 ≡ Granted pair → 0 < objectCovering (w .state .table) (a / 64) .registration .password
+    → judged (w .state .table) (w .words) f (Address a) pdx ≡ Granted pair → 0 < objectCovering (w .state .table) (a / 64) .registration .password
 unfolding bit
 called-registered w f a pair h e =
-    let m = grant-means (w .state .table) (w .words) f (Address a) 16 pair e in
+    let m = grant-means (w .state .table) (w .words) f (Address a) pdx pair e in
     let b = covering-answered (w .state) (a / 64) h .bounds (not-zero _ (m .stands)) in
-    rw (grant-registered (w .words) _ 16 pair (a / 64 / 32) b refl m) (m .nonzero)
+    rw (grant-registered (w .words) _ pdx pair (a / 64 / 32) b refl m) (m .nonzero)

@@ -6,6 +6,7 @@ use mathlib.Core.Logic.{⊎-elim}
 use native.Mathlib.Omega.{arith}
 use lib.Dec.{eqb}
 use Rattle.bounded.specs.Bools.{flag, cond-ind}
+use Rattle.rights.specs.Modes.{pdx}
 use Rattle.state.specs.Places.{noObject, freeObject}
 use Rattle.state.specs.Update.{dropPassword}
 use Rattle.soundness.specs.Sound.{sound}
@@ -40,13 +41,13 @@ module _ (G : Group) where
 
   -- THE LIST OF A REGISTRATION that a member is granted P on: an object outside would be refused, so this one lies inside
   pub called-in : (w : World) (f : Frame) (a : ℕ) → sound (w .state) ≡ true → ListsInside G w f → StateIn G (w .state)
-      → isSome (search judged w f (rights (Address a) 16)) ≡ true → Page G (objectOf (search judged w f (rights (Address a) 16)) .registration .list)
-  called-in w f a h lists i s = go (judged (w .state .table) (w .words) f (Address a) 16) refl s
+      → isSome (search judged w f (rights (Address a) pdx)) ≡ true → Page G (objectOf (search judged w f (rights (Address a) pdx)) .registration .list)
+  called-in w f a h lists i s = go (judged (w .state .table) (w .words) f (Address a) pdx) refl s
     where
-      inside : isSome (search judged w f (rights (Address a) 16)) ≡ true → insidePage G (a / 64) ≡ true
-      inside s = ⊎-elim (λ t. t) (λ o. absurd (true≢false (sym s ∙ rw (judged-out G w h f (Address a) 16 lists o)))) (flag (insidePage G (a / 64)))
+      inside : isSome (search judged w f (rights (Address a) pdx)) ≡ true → insidePage G (a / 64) ≡ true
+      inside s = ⊎-elim (λ t. t) (λ o. absurd (true≢false (sym s ∙ rw (judged-out G w h f (Address a) pdx lists o)))) (flag (insidePage G (a / 64)))
 
-      go : (j : Judgement) → judged (w .state .table) (w .words) f (Address a) 16 ≡ j → isSome (foundBy w (Address a) j) ≡ true
+      go : (j : Judgement) → judged (w .state .table) (w .words) f (Address a) pdx ≡ j → isSome (foundBy w (Address a) j) ≡ true
           → Page G (objectOf (foundBy w (Address a) j) .registration .list)
       go (Granted pair) e g =
           covering-each (ObjectIn G) free-in none-in (w .state .table) (a / 64) (i .estates (a / 64 / 32) (inside s)) (called-registered w f a pair h e)

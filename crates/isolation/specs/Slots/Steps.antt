@@ -6,6 +6,7 @@ use mathlib.Core.Logic.{⊎-elim}
 use native.Mathlib.Omega.{arith}
 use borrow.Author.Tests.{leb-true, lt-ltb}
 use Rattle.bounded.specs.Bools.{flag}
+use Rattle.rights.specs.Modes.{destroy, owner}
 use Rattle.state.specs.Places.{estateAt, domainAt}
 use Rattle.state.specs.Update.{newObject, addPassword, withObject, removeObject, withActive}
 use Rattle.soundness.specs.Sound.{sound}
@@ -73,11 +74,11 @@ module _ (G : Group) where
       λ m. insert-each (ObjectIn G) (free-in G) (none-in G) (estateAt (w .state .table) d) (newObject a n k u) (λ q. absurd (omega arith)) (i .estates d m),
       (tt, tt),
     )
-    done-in (OnObject (Delete b)) p z s = (goes-in b 8 _, tt)
-    done-in (OnObject (AddPassword b k x)) p z s = (becomes-in b 15 _ _ (λ o m. o), tt)
-    done-in (OnObject (DropPassword b k)) p z s = (becomes-in b 15 _ _ (λ o m. drop-in G _ k o), tt)
+    done-in (OnObject (Delete b)) p z s = (goes-in b destroy _, tt)
+    done-in (OnObject (AddPassword b k x)) p z s = (becomes-in b owner _ _ (λ o m. o), tt)
+    done-in (OnObject (DropPassword b k)) p z s = (becomes-in b owner _ _ (λ o m. drop-in G _ k o), tt)
     done-in (OnObject (Register b k l es)) p z s = (
-      becomes-in b 15 _ _ (λ o m q.
+      becomes-in b owner _ _ (λ o m q.
           ⊎-elim (λ t. live-inside G (w .state .table) (capability l) (p .of-member t .held) (s .rest .1 .0))
           (λ f. absurd (true≢false (sym m ∙ p .of-outsider f .granted z))) (flag (member G d))),
       tt,

@@ -10,6 +10,7 @@ use Rattle.bounded.specs.Bools.{and-right, cond-ind, same-or-not}
 use Rattle.bounded.specs.Every.{below-at, set-at}
 use Rattle.bounded.specs.Fill.{tabulate, tabulate-at}
 use Rattle.bounded.specs.Shift.{in-cases, out-cases}
+use Rattle.rights.specs.Modes.{destroy, owner}
 use Rattle.state.specs.Places.{noPassword, noObject, noEstate, freeRegistration, freeObject, passwordAt, objectAt, estateAt, domainAt}
 use Rattle.state.specs.Extent.{liesIn, apart}
 use Rattle.state.specs.Lookup.{hasBase, objectWhere, placeWhere, based, objectBased, placeAbove, placeOf, ordinaryMode}
@@ -157,11 +158,11 @@ module _ (w : World) (d : ℕ) (h : WholeLocked d w) where
       let o = newObject a n k u in
       created-adds (w .state) s d (p .domain) o (create-range a n k u (p .range) .pages) (and-right (liesIn o d) _ (p .rest .0))
   own-adds (OnObject (Delete b)) s p =
-      let g = was-granted w (domainAt (w .state) d .active) (Base b) 8 (p .rest .0) in
+      let g = was-granted w (domainAt (w .state) d .active) (Base b) destroy (p .rest .0) in
       rw (g .judgement) (gone-adds (w .state) s (b / 32) (based-sound (w .state) b s (g .pages) .estate) _)
   own-adds (OnObject (AddPassword b k m)) s p = absurd (true≢false (whole-passes w d (OnObject (AddPassword b k m)) h p))
   own-adds (OnObject (DropPassword b k)) s p =
-      let g = was-granted w (domainAt (w .state) d .active) (Base b) 15 (p .rest .0) in
+      let g = was-granted w (domainAt (w .state) d .active) (Base b) owner (p .rest .0) in
       let o = objectBased (w .state .table) b in
       let same : (c : ℕ) → hasBase c (dropPassword o k) ≡ true → c ≡ b =
       λ c own. sym (base-same c (dropPassword o k) own) ∙ drop-run o k .base ∙ based-base (w .state .table) b (g .pages) in

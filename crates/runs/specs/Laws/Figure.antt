@@ -7,6 +7,7 @@ use native.Mathlib.Omega.{arith}
 use lib.Dec.{leb, eqb}
 use borrow.Author.Tests.{leb-true, eqb-true, ne-eqb}
 use Rattle.bounded.specs.Bools.{cond-ind}
+use Rattle.rights.specs.Modes.{destroy, owner}
 use Rattle.state.specs.Places.{estateAt, domainAt, limitAt}
 use Rattle.state.specs.Lookup.{hasBase, placeWhere, hasRoom, placeBased, based, objectBased}
 use Rattle.state.specs.Update.{newObject, addPassword, dropPassword, withObject, insertObject, removeObject, withEstate}
@@ -113,10 +114,10 @@ module _ (a : ℕ) (w : World) (d : ℕ) (h : sound (w .state) ≡ true) where
   done-figure (OnStore (Execute x)) p = refl
   done-figure (OnStore (Lookup x r)) p = refl
   done-figure (OnObject (Create q n k u)) p = new-figure q n k u (p .domain) (p .rest .1 .1 .1 .0)
-  done-figure (OnObject (Delete b)) p = goes-figure b 8 (p .rest .0)
-  done-figure (OnObject (AddPassword b k m)) p = kept-figure b 15 _ (p .rest .0) (record { pages = refl; account = refl })
-  done-figure (OnObject (DropPassword b k)) p = kept-figure b 15 _ (p .rest .0) (drop-charge _ k)
-  done-figure (OnObject (Register b k l es)) p = kept-figure b 15 _ (p .rest .0) (record { pages = refl; account = refl })
+  done-figure (OnObject (Delete b)) p = goes-figure b destroy (p .rest .0)
+  done-figure (OnObject (AddPassword b k m)) p = kept-figure b owner _ (p .rest .0) (record { pages = refl; account = refl })
+  done-figure (OnObject (DropPassword b k)) p = kept-figure b owner _ (p .rest .0) (drop-charge _ k)
+  done-figure (OnObject (Register b k l es)) p = kept-figure b owner _ (p .rest .0) (record { pages = refl; account = refl })
   done-figure (OnDomain (Insert i l)) p = refl
   done-figure (OnDomain (Remove i)) p = refl
   done-figure (OnDomain Get) p = refl

@@ -48,7 +48,7 @@ home-figure a plan d = total-only 8 0 (λ k. pagesOn a (objectAt (homeEstate pla
     others ℕ.zero l ne = absurd (ne refl)
     others (suc k) l ne = rw (getD-replicate 7 k freeObject noObject (omega arith)) (none-on a freeObject refl)
 
-boot-figure : (a : ℕ) (plan : List ℕ) → pagesOf (bootState plan .table) a ≡ homePages plan a
+pub boot-figure : (a : ℕ) (plan : List ℕ) → pagesOf (bootState plan .table) a ≡ homePages plan a
 unfolding pagesOf bootState homePages
 boot-figure a plan = total-same 4 _ _ (λ d l. rw (tabulate-at 4 (homeEstate plan) d noEstate l) (home-figure a plan d))
 

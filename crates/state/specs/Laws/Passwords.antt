@@ -10,6 +10,7 @@ use borrow.Author.Tests.{eqb-true, eqb-false, eq-eqb, ne-eqb, not-true}
 use Rattle.bounded.specs.Bools.{and-left, and-right, or-unless, same-or-not}
 use Rattle.bounded.specs.Place.{search-cases, found-below, found-some, search-value, search-none}
 use Rattle.bounded.specs.Search.{first}
+use Rattle.rights.specs.Modes.{pdx}
 use Rattle.state.specs.Places.{noPassword, freeObject, passwordAt}
 use Rattle.state.specs.Lookup.{placeOf, ordinaryMode, modeOf, hasPassword}
 use Rattle.state.specs.Laws.Extent.{zero-not, not-zero}
@@ -94,14 +95,14 @@ mode-ordinary o word h = go (eqb word 0) refl h
           (search-cases (shows o word) 4),
     )
 
--- a word with a nonzero mode is a password of the object: the registration's, with mode 16, or an ordinary one
+-- a word with a nonzero mode is a password of the object: the registration's, with mode pdx, or an ordinary one
 pub mode-parts : (o : Object) (word : ℕ) → 0 < modeOf o word
-    → (0 < word) × (((o .registration .password ≡ word) × (modeOf o word ≡ 16)) ⊎ (Ordinary o word × (modeOf o word ≡ ordinaryMode o word)))
+    → (0 < word) × (((o .registration .password ≡ word) × (modeOf o word ≡ pdx)) ⊎ (Ordinary o word × (modeOf o word ≡ ordinaryMode o word)))
 unfolding modeOf
 mode-parts o word h = go (not (eqb word 0) && eqb (o .registration .password) word) refl h
   where
-    go : (b : Bool) → (not (eqb word 0) && eqb (o .registration .password) word) ≡ b → 0 < cond b 16 (ordinaryMode o word)
-        → (0 < word) × (((o .registration .password ≡ word) × (cond b 16 (ordinaryMode o word) ≡ 16)) ⊎ (Ordinary o word × (cond b 16 (ordinaryMode o word) ≡ ordinaryMode o word)))
+    go : (b : Bool) → (not (eqb word 0) && eqb (o .registration .password) word) ≡ b → 0 < cond b pdx (ordinaryMode o word)
+        → (0 < word) × (((o .registration .password ≡ word) × (cond b pdx (ordinaryMode o word) ≡ pdx)) ⊎ (Ordinary o word × (cond b pdx (ordinaryMode o word) ≡ ordinaryMode o word)))
     go true e n = (not-zero word (not-true _ (and-left _ _ e)), inl (eqb-true _ _ (and-right (not (eqb word 0)) _ e), refl))
     go false e n = let r = mode-ordinary o word n in (r .0, inr (r .1, refl))
 
