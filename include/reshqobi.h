@@ -4,7 +4,7 @@
  * and the values that come back. docs/IMAGE.md has their layout, docs/CALLS.md the calls. Then comes the calling domain, 0 to 3,
  * and the call's arguments. The result is the answer number: RESHQOBI_DONE, or one of the refusals below.
  *
- * A refusal leaves image and store as they were, byte for byte, and zeros in the values. Values of a wrong length are not touched.
+ * What a refused call leaves is said in docs/CALLS.md, under that heading. Values of a wrong length are not touched.
  * Every function takes every number and every length, and returns. A pointer must point to as many bytes as its length says, and
  * not be null.
  * There is no state beside these slices: calls on different images and stores may run at the same time. A call takes some 140 KB

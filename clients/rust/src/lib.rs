@@ -1,8 +1,8 @@
 //! The protection monitor Reshqobi, called through its C functions.
 //!
 //! A [`Monitor`] owns the image of the state and the store. Each method is one
-//! call by one domain; a refused call changes nothing and says why, by a
-//! [`Refusal`]. docs/CALLS.md has the calls, docs/IMAGE.md the bytes.
+//! call by one domain; a refused one says why, by a [`Refusal`]. docs/CALLS.md
+//! has the calls and what a refused one leaves, docs/IMAGE.md the bytes.
 //!
 //! ```
 //! use reshqobi::{Monitor, Plan, Refusal};

@@ -16,7 +16,7 @@ use Rattle.figures.specs.Lines.{figureLine, figureLines}
 abbrev pub figured : List ℕ → List ℕ
 figured = printedFor figureLines
 
--- the pages of the granted creations on an account since the last granted boot, homes included, less those of the granted deletions
+-- what the last granted boot and the granted CRs since put on an account, less what the granted DLs took off
 abbrev pub netPages : List ℕ → ℕ → ℕ
 netPages input a = ledgerBehind a input .created - ledgerBehind a input .deleted
 

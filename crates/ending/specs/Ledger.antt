@@ -23,12 +23,12 @@ use Rattle.runs.specs.Laws.Ledger.{boot-figure}
 use Rattle.runs.specs.Laws.Unbooted.{empty-unbooted}
 use Rattle.soundness.specs.Sound.{sound}
 use Rattle.lines.specs.Grammar.{lineOf}
-use Rattle.lines.specs.Reading.{Reading, unreadable, bootBy, callBy}
+use Rattle.lines.specs.Reading.{Reading, answered, bootBy, callBy}
 use Rattle.replies.specs.Reply.{reply, stateAfter}
 use Rattle.stream.specs.Run.{Progress, lineDone, withLine, onByteBy, extended, onByte, started}
 use Rattle.ending.specs.Behind.{behind, tableBehind}
 
--- since the last granted boot: the pages of granted creations on the account, homes included, and those of granted deletions
+-- since the last granted boot: the pages that it and the granted CRs put on the account, and those that the granted DLs took off
 pub record Ledger : Type 0 where
   pub created : ℕ
   pub deleted : ℕ
@@ -39,7 +39,7 @@ pages created deleted = record { created = created; deleted = deleted }
 -- what a line adds, on the world that it finds: a granted boot begins anew with the home pages, a granted call adds what it creates and
 -- what it deletes, and all else adds nothing
 unfoldable pub booked : ℕ → World → Reading → Ledger → Ledger
-booked a w unreadable l = l
+booked a w (answered n) l = l
 booked a w (bootBy d plan) l = cond (eqb (numberOf (boot (w .words) d plan .outcome .answer)) 0) (pages (homePages plan a) 0) l
 booked a w (callBy d c) l =
     pages (l .created + cond (granted w (record { domain = d; call = c })) (newPages a c) 0)
@@ -64,7 +64,7 @@ record Balanced (a : ℕ) (w : World) (l : Ledger) : Type 0 where
 
 line-balanced : (a : ℕ) (w : World) (r : Reading) (l : Ledger) → Balanced a w l → Balanced a (reply step w r .world) (booked a w r l)
 unfolding reply booked
-line-balanced a w unreadable l h = h
+line-balanced a w (answered n) l h = h
 line-balanced a w (bootBy d plan) l h = go (boot (w .words) d plan .outcome .answer) refl
   where
     go : (x : Answer) → boot (w .words) d plan .outcome .answer ≡ x
@@ -92,8 +92,8 @@ bytes-balanced a (b ∷ bs) r l h = bytes-balanced a bs (onByte r b) (bookedByte
     go true = line-balanced a (r .world) (lineOf (r .line)) l h
     go false = h
 
--- THE FIGURE BEHIND AN INPUT, the summed lengths of the objects that stand on the account, is the pages of the granted creations since the last
--- granted boot, homes included, less those of the granted deletions: here with the deletions on the other side
+-- THE FIGURE BEHIND AN INPUT, that is the pages of all objects on the account: what the last granted boot and the granted CRs since put on it, without
+-- what the granted DLs took off; here with the latter on the other side
 pub figure-behind : (a : ℕ) (input : List ℕ) → a < 4 → pagesOf (tableBehind input) a + ledgerBehind a input .deleted ≡ ledgerBehind a input .created
 unfolding behind ledgerBehind started
 figure-behind a input l =

@@ -1,4 +1,4 @@
-// The calls as C functions on numbers and byte slices, for include/reshqobi.h.
+// The C functions of include/reshqobi.h: each hands its numbers on as a call on the three slices.
 use byte_calls::boot_call;
 ghost use mathlib.Core.Path.{_≡_};
 ghost use mathlib.Core.List.{[], _∷_};

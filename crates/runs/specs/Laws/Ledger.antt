@@ -56,8 +56,8 @@ module _ (words : List ℕ) (d : ℕ) (plan : List ℕ) (z : numberOf (boot word
   abbrev start : World
   start = worldOf (boot words d plan)
 
-  -- THE FIGURE OF AN ACCOUNT, the summed lengths of the objects that stand on it, is the pages of the granted creations since the boot, homes
-  -- included, less those of the granted deletions: here with the deletions on the other side
+  -- THE FIGURE OF AN ACCOUNT, that is the pages of all objects on it: what the boot and the granted CRs put on it, without what the granted DLs took
+  -- off; here with the latter on the other side
   pub figure-is : (a : ℕ) (es : List Event) → pagesOf (final start es .state .table) a + deleted a start es ≡ homePages plan a + created a start es
   figure-is a es =
       let at-first : pagesOf (start .state .table) a ≡ homePages plan a = rw (boot-done words d plan z) (boot-figure a plan) in
