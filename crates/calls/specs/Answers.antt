@@ -45,12 +45,11 @@ refusals =
     ∷ Missing
     ∷ []
 
--- the refusal in a list that has a number
+-- the refusal of a list that has a number; how many stand there before it
 abbrev pub numbered : ℕ → List Refusal → Option Refusal
 numbered n [] = none
 numbered n (r ∷ rs) = cond (eqb (refusalNumber r) n) (some r) (numbered n rs)
 
--- how many stand before it there
 abbrev pub placeIn : ℕ → List Refusal → ℕ
 placeIn n [] = 0
 placeIn n (r ∷ rs) = cond (eqb (refusalNumber r) n) 0 (suc (placeIn n rs))
