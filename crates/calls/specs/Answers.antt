@@ -1,5 +1,5 @@
 -- Each answer as numbers: that of document 01, "In checking order", and of document 02, T-05, and what stands behind it.
-use Prim.Native.Nat.{ℕ}
+use Prim.Native.Nat.{ℕ, suc}
 use mathlib.Core.Bool.{cond}
 use mathlib.Core.List.{List, [], _∷_}
 use mathlib.Core.Option.{Option, none, some}
@@ -27,23 +27,7 @@ refusalNumber HasPassword = 10
 refusalNumber Full = 11
 refusalNumber Missing = 12
 
--- the place of a refusal in checking order: 14 and 15 come behind 9, the others as their numbers rise (document 02, T-05)
-abbrev pub refusalPlace : Refusal → ℕ
-refusalPlace StoreLength = 2
-refusalPlace Unsound = 3
-refusalPlace NoDomain = 4
-refusalPlace OutOfRange = 5
-refusalPlace Locked = 6
-refusalPlace NotGranted = 7
-refusalPlace NotEntry = 8
-refusalPlace NoRun = 9
-refusalPlace NotPermitted = 10
-refusalPlace LimitPassed = 11
-refusalPlace HasPassword = 12
-refusalPlace Full = 13
-refusalPlace Missing = 14
-
--- every refusal, in checking order
+-- every refusal, in checking order: 14 and 15 come behind 9 (document 02, T-05)
 abbrev pub refusals : List Refusal
 refusals =
     StoreLength
@@ -61,10 +45,18 @@ refusals =
     ∷ Missing
     ∷ []
 
--- the refusal in a list that has a number
+-- the refusal of a list that has a number; how many stand there before it
 abbrev pub numbered : ℕ → List Refusal → Option Refusal
 numbered n [] = none
 numbered n (r ∷ rs) = cond (eqb (refusalNumber r) n) (some r) (numbered n rs)
+
+abbrev pub placeIn : ℕ → List Refusal → ℕ
+placeIn n [] = 0
+placeIn n (r ∷ rs) = cond (eqb (refusalNumber r) n) 0 (suc (placeIn n rs))
+
+-- the place of a refusal in checking order
+abbrev pub refusalPlace : Refusal → ℕ
+refusalPlace r = placeIn (refusalNumber r) refusals
 
 -- a done call answers 0
 abbrev pub numberOf : Answer → ℕ

@@ -20,7 +20,7 @@ use Rattle.soundness.specs.Laws.Domains.{active-sound, empty-domain}
 use Rattle.soundness.specs.Laws.Objects.{new-sound}
 use Rattle.soundness.specs.Laws.Estates.{insert-sound, empty-estate, empty-sound}
 use Rattle.soundness.specs.Laws.StateParts.{parts-state}
-use Rattle.calls.specs.Answers.{numberOf}
+use Rattle.calls.specs.Answers.{refusalPlace, numberOf}
 use Rattle.calls.specs.View.{Check, check, firstFailing}
 use Rattle.calls.specs.Step.{refused, world, result, doneWith, storeCheck}
 use Rattle.calls.specs.Boot.{homeOf, accountOf, homeEstate, homeDomain, bootState, homePair, bootWords, booted, planOk, bootedBy, boot}
@@ -32,7 +32,7 @@ use Rattle.calls.specs.Parts.{callerOf}
 use Rattle.calls.specs.Laws.Returns.{caller-known, caller-unknown}
 use Rattle.calls.specs.declared.Caller.the-variants.{Known, Refused as Caller·Refused}
 use Rattle.calls.specs.declared.Refusal.{Refusal}
-use Rattle.calls.specs.declared.Refusal.the-variants.{NoDomain, OutOfRange}
+use Rattle.calls.specs.declared.Refusal.the-variants.{StoreLength, NoDomain, OutOfRange}
 use Rattle.calls.specs.declared.Answer.the-variants.{Refused}
 
 home-estate : (plan : List ℕ) (d : ℕ) → 0 < homeOf plan d → accountOf plan d < 4 → estateOk (homeEstate plan d) d ≡ true
@@ -85,7 +85,7 @@ module _ (words : List ℕ) (d : ℕ) (plan : List ℕ) where
       caller-unknown (λ x. refused (world emptyState words) why ≡ booted plan words x) words d (check OutOfRange (planOk plan) ∷ []) why h refl
 
   -- they come in checking order
-  pub boot-ascends : ascending 2 (bootChecks words d plan) ≡ true
+  pub boot-ascends : ascending (refusalPlace StoreLength) (bootChecks words d plan) ≡ true
   unfolding ascending
   boot-ascends = refl
 

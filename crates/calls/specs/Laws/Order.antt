@@ -43,8 +43,8 @@ ascends-from m n (check r holds ∷ cs) l h =
     let k = leb-true n (refusalPlace r) (and-left _ _ h) in
     and-both (le-leb m (refusalPlace r) (omega arith)) (and-right (leb n (refusalPlace r)) _ h)
 
--- after check 7 the places are 8 or more, and never fall, whatever is read
-pub rest-ascends : (d : ℕ) (c : Call) (v : View) → ascending 8 (rule c .rest d v) ≡ true
+-- after check 7 the places are later ones, and never fall, whatever is read
+pub rest-ascends : (d : ℕ) (c : Call) (v : View) → ascending (suc (refusalPlace NotGranted)) (rule c .rest d v) ≡ true
 unfolding ascending rule
 rest-ascends d (OnStore (Read a)) v = refl
 rest-ascends d (OnStore (Write a x)) v = refl
@@ -63,21 +63,21 @@ rest-ascends d (OnDomain (PdxCall a ch)) v = refl
 rest-ascends d (OnDomain PdxReturn) v = refl
 
 -- from check 7 on the places never fall either
-pub late-ascends : (d : ℕ) (c : Call) (v : View) → ascending 7 (late d c v) ≡ true
+pub late-ascends : (d : ℕ) (c : Call) (v : View) → ascending (refusalPlace NotGranted) (late d c v) ≡ true
 unfolding ascending late
 late-ascends d c v = from-seven (wanted c) (presented c) (rule c .rest d v) (rest-ascends d c v)
   where
-    from-seven : (want : Want) (presents : Option Presented) (cs : List Check) → ascending 8 cs ≡ true
-        → ascending 7 (grantedCheck want v ++ presentedCheck presents v ++ cs) ≡ true
-    from-seven nothing none cs h = ascends-from 7 8 cs (omega arith) h
-    from-seven nothing (some l) cs h = ascends-from 7 8 cs (omega arith) h
-    from-seven (rights target r) none cs h = ascends-from 7 8 cs (omega arith) h
-    from-seven (rights target r) (some l) cs h = ascends-from 7 8 cs (omega arith) h
+    from-seven : (want : Want) (presents : Option Presented) (cs : List Check) → ascending (suc (refusalPlace NotGranted)) cs ≡ true
+        → ascending (refusalPlace NotGranted) (grantedCheck want v ++ presentedCheck presents v ++ cs) ≡ true
+    from-seven nothing none cs h = ascends-from (refusalPlace NotGranted) (suc (refusalPlace NotGranted)) cs (omega arith) h
+    from-seven nothing (some l) cs h = ascends-from (refusalPlace NotGranted) (suc (refusalPlace NotGranted)) cs (omega arith) h
+    from-seven (rights target r) none cs h = ascends-from (refusalPlace NotGranted) (suc (refusalPlace NotGranted)) cs (omega arith) h
+    from-seven (rights target r) (some l) cs h = ascends-from (refusalPlace NotGranted) (suc (refusalPlace NotGranted)) cs (omega arith) h
 
 -- THE CHECKS COME IN THE PAPER'S ORDER, whatever is read
-pub checks-ascend : (w : World) (d : ℕ) (c : Call) (v : View) → ascending 2 (storeCheck w ∷ soundCheck w ∷ checks d c v) ≡ true
+pub checks-ascend : (w : World) (d : ℕ) (c : Call) (v : View) → ascending (refusalPlace StoreLength) (storeCheck w ∷ soundCheck w ∷ checks d c v) ≡ true
 unfolding ascending checks early
-checks-ascend w d c v = ascends-from 6 7 (late d c v) (omega arith) (late-ascends d c v)
+checks-ascend w d c v = ascends-from (refusalPlace Locked) (refusalPlace NotGranted) (late d c v) (omega arith) (late-ascends d c v)
 
 -- each check of the list holds
 abbrev pub AllHold : List Check → Type 0
@@ -212,4 +212,4 @@ module _ (w : World) (d : ℕ) (c : Call) where
 
   -- THE EARLIEST PLACE ANSWERS: no check that fails has an earlier one
   pub earliest-answers : (why : Refusal) → step w d c .outcome .answer ≡ Refused why → FailFrom (refusalPlace why) (allChecks w d c)
-  earliest-answers why h = first-earliest 2 (allChecks w d c) why (checks-ascend w d c (view judged w d c)) (step-refused why .0 h)
+  earliest-answers why h = first-earliest (refusalPlace StoreLength) (allChecks w d c) why (checks-ascend w d c (view judged w d c)) (step-refused why .0 h)
