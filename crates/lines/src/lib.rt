@@ -4,6 +4,8 @@ use calls::Call;
 use fields::letters_of;
 use grammar::call_of;
 ghost use mathlib.Core.Path.{_≡_};
+ghost use lib.ListN.{length};
+ghost use Rattle.calls.specs.Boot.{bootNumbers};
 ghost use Rattle.lines.specs.declared.Letters.the-variants.{Known};
 ghost use Rattle.lines.specs.declared.Named.the-variants.{Boot, Call as Named·Call};
 ghost use Rattle.lines.specs.Arguments.{numbersOf, eightOf};
@@ -61,14 +63,14 @@ enum Mnemonic {
 
 // A line that is answered at once, by this number; a boot, whose numbers stand beside it; or a call.
 pub enum Line {
-    Answered(u64),
+    Answered(u8),
     Boot { domain: u64 },
     Call { domain: u64, call: Call },
 }
 
 // A line that is answered at once, by this number; or how many arguments it has, and the first eight.
 enum Arguments {
-    Answered(u64),
+    Answered(u8),
     Numbers(usize, Eight),
 }
 
@@ -119,11 +121,17 @@ fn read_call(domain: u64, mnemonic: Mnemonic, t: &[u8]) -> Line
     }
 }
 
-// A boot, with its numbers in the text t: where it has all that it takes and no more, they are put into the plan.
-fn read_boot(domain: u64, t: &[u8], plan: &mut [u64; BOOT_NUMBERS]) -> Line
+// A boot, with its numbers in the text t: where it has all that it takes and no more, they are put into the plan. `numbers` is the
+// room that they are gathered in.
+fn read_boot(
+    domain: u64,
+    t: &[u8],
+    numbers: &mut [u64; BOOT_NUMBERS],
+    plan: &mut [u64; BOOT_NUMBERS],
+) -> Line
+    requires { ⌜ length (now numbers) ≡ bootNumbers ⌝ }
     ensures { λ r. ⌜ ReadAs r (now (plan .entry)) (now (plan .exit)) (withArguments domain (Known Boot) (numbersOf (behind (now (t .entry))))) ⌝ }
 {
-    let mut numbers = [0; BOOT_NUMBERS];
     let mut n = 0;
     let mut at = 0;
     while at < t.len() {
@@ -141,7 +149,7 @@ fn read_boot(domain: u64, t: &[u8], plan: &mut [u64; BOOT_NUMBERS]) -> Line
     if n < BOOT_NUMBERS {
         return Line::Answered(1);
     }
-    *plan = numbers;
+    *plan = *numbers;
     Line::Boot { domain }
 }
 
@@ -165,7 +173,10 @@ pub fn read_line(s: &[u8], plan: &mut [u64; BOOT_NUMBERS]) -> Line
         return Line::Answered(1);
     };
     match named {
-        Named::Boot => return read_boot(domain, &s[e..], plan),
+        Named::Boot => {
+            let mut numbers = [0; BOOT_NUMBERS];
+            return read_boot(domain, &s[e..], &mut numbers, plan);
+        }
         Named::Call(mnemonic) => return read_call(domain, mnemonic, &s[e..]),
     }
 }

@@ -49,7 +49,7 @@ pub fn kind_of(words: usize, reading: Line) -> Kind
     ensures { λ r. ⌜ IsKind r words reading ⌝ }
 {
     match reading {
-        Line::Answered(number) => return Kind::Known(number),
+        Line::Answered(number) => return Kind::Known(number as u64),
         Line::Boot { domain } => return Kind::Boot(domain),
         Line::Call { domain, call } => return call_kind(domain, call, words),
     }

@@ -14,7 +14,7 @@ pub read-boot-spec : {M : Type 1} → statement M
 read-boot-spec =
     tie.close
     (tie.spec (λ domain t plan numbers₀ n₀ at₀ numbers n at. Filling t at n numbers) (λ domain t plan numbers₀ n₀ at₀ numbers n at. length t - at)
-    (λ c. filling-none refl)
+    (λ c. filling-none (c .before .pre))
     (λ c. search needs) (λ c κs. search needs) (λ c. search needs) (λ c. search needs) (λ c. search needs) (λ c κs. search needs) (λ c. search needs)
     (λ c.
     let f = c .before .before .before in
@@ -31,4 +31,4 @@ read-boot-spec =
     let f = n .before .before in
     filling-more (f .before .before .loop .inv) (f .before .loop-test .taken) (f .find .ensures .0) (omega (arith, f .find .ensures .2)) (sym (c .before .before .v .given .1) ∙ n .number .ensures) (c .if1 .left))
     (λ c. plan-kept (Answered 1) _ (filling-few (c .before .before .loop .inv) _ (c .before .loop-test .left) (c .if2 .taken)))
-    (λ c. plan-filled _ _ (filling-all (c .before .before .loop .inv) _ (c .before .loop-test .left) (c .if2 .left))))
+    (λ c. plan-filled _ _ (filling-all (c .before .before .before .loop .inv) _ (c .before .before .loop-test .left) (c .before .if2 .left))))

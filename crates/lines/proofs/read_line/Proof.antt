@@ -33,7 +33,7 @@ read-line-spec =
     (unknown-letters _ (comma .before .if1 .left) (comma .find .ensures .0) (sym (domain .domain .given .1) ∙ field .number .ensures) (omega arith) (next .find2 .ensures .0) (sym (c .enum-told .given .1) ∙ letters .letters-of .ensures)))
     (λ c. search needs) (λ c. search needs) (λ c. search needs) (λ c. search needs) (λ c κs. search needs)
     (λ c.
-    let told = c .before .before .before in
+    let told = c .before .before .before .before in
     let known = told .before .before .before in
     let letters = known .before .before in
     let next = letters .before .before in
