@@ -114,7 +114,7 @@ pub fn domain_call(t: Table, store: &[u64], m: Domain, call: DomainCall) -> Move
     }
 }
 
-// A call of domain d, behind checks 3 and 4.
+// A call of domain d, which is known.
 fn carried_out(s: State, store: &mut [u64], d: usize, call: Call) -> Outcome
     requires { ⌜ d < 4 ⌝ }
     ensures { λ r. ⌜ result r (now (store .exit)) ≡ unchecked (world s (now (store .entry))) d call ⌝ }

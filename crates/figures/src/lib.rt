@@ -4,11 +4,11 @@ use state::Table;
 use text::put_line;
 ghost use mathlib.Core.Path.{_≡_};
 ghost use Prim.Native.Nat.{_+_, _≤_};
-ghost use lib.ListN.{length, take};
+ghost use lib.ListN.{length, take, drop, replicate};
 ghost use Rattle.text.specs.Puts.{Put};
 ghost use Rattle.figures.specs.Lines.{figureLine, figureLines};
 
-// The first `count` of the bytes are a text.
+// The first `count` of the bytes are a text; behind them stand zeros.
 pub struct Text {
     pub bytes: [u8; 168],
     pub count: usize,
@@ -24,7 +24,7 @@ fn put_figure(out: &mut [u8], at: usize, t: Table, a: u64) -> usize
 
 // A line for each account from 0 to 3: the account, a comma, its pages and a line feed.
 pub fn figure_text(t: Table) -> Text
-    ensures { λ r. ⌜ (take (r .count) (r .bytes) ≡ figureLines t) × (r .count ≤ length (r .bytes)) ⌝ }
+    ensures { λ r. ⌜ (take (r .count) (r .bytes) ≡ figureLines t) × (r .count ≤ length (r .bytes)) × (drop (r .count) (r .bytes) ≡ drop (r .count) (replicate 168 0)) ⌝ }
 {
     let mut bytes = [0u8; 168];
     let a = put_figure(&mut bytes, 0, t, 0);

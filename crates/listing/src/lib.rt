@@ -5,11 +5,11 @@ use state::Table;
 use text::put_line;
 ghost use mathlib.Core.Path.{_≡_};
 ghost use Prim.Native.Nat.{_+_, _≤_};
-ghost use lib.ListN.{length, take};
+ghost use lib.ListN.{length, take, drop, replicate};
 ghost use Rattle.text.specs.Puts.{Put};
 ghost use Rattle.listing.specs.Lines.{oneFor, passwordCount, objectLine, placeLine, estateLines, listing};
 
-// The first `count` of the bytes are a text. There is room for the header and 32 lines of five numbers.
+// The first `count` of the bytes are a text; behind them stand zeros. There is room for the header and 32 lines of five numbers.
 pub struct Text {
     pub bytes: [u8; 3393],
     pub count: usize,
@@ -93,7 +93,7 @@ fn put_bytes(out: &mut [u8], s: &[u8]) -> usize
 
 // The header, and a line for each object: base, page count, account, number of ordinary passwords, and 1 or 0 for a registration.
 pub fn listing_text(t: Table) -> Text
-    ensures { λ r. ⌜ (take (r .count) (r .bytes) ≡ listing t) × (r .count ≤ length (r .bytes)) ⌝ }
+    ensures { λ r. ⌜ (take (r .count) (r .bytes) ≡ listing t) × (r .count ≤ length (r .bytes)) × (drop (r .count) (r .bytes) ≡ drop (r .count) (replicate 3393 0)) ⌝ }
 {
     let mut bytes = [0u8; 3393];
     let a = put_bytes(&mut bytes, b"base,pages,account,passwords,pdx\n");

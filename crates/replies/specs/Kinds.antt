@@ -22,6 +22,7 @@ use Rattle.calls.specs.declared.Call.the-variants.{OnStore, OnObject, OnDomain}
 use Rattle.calls.specs.declared.Access.{Access}
 use Rattle.calls.specs.declared.ObjectCall.{ObjectCall}
 use Rattle.calls.specs.declared.DomainCall.{DomainCall}
+use Rattle.calls.specs.declared.Caller.{Caller}
 use Rattle.calls.specs.declared.Caller.the-variants.{Known as Caller·Known, Refused as Caller·Refused}
 use Rattle.calls.specs.declared.Refusal.{Refusal}
 use Rattle.calls.specs.declared.Answer.{Answer}
@@ -38,42 +39,64 @@ use Rattle.replies.specs.declared.Kind.{Kind}
 use Rattle.replies.specs.declared.Kind.the-variants as kind
 use Rattle.replies.specs.declared.NewEstate.{NewEstate}
 
--- the kind of a line, with a store of n words
-abbrev pub IsKind : Kind → ℕ → Line → Type 0
-IsKind (kind.Known number) n l = (plan : List ℕ) (w : World) → length (w .words) ≡ n → reply unchecked w (reads l plan) ≡ record { number = number; values = 0 ∷ []; world = w }
-IsKind (kind.Access d c) n l = (n ≡ 8192) × (d < 4) × (l ≡ Call d (OnStore c))
-IsKind (kind.Object d c) n l = (n ≡ 8192) × (d < 4) × (l ≡ Call d (OnObject c))
-IsKind (kind.Domain d c) n l = (n ≡ 8192) × (d < 4) × (l ≡ Call d (OnDomain c))
-IsKind (kind.Boot d) n l = l ≡ Boot d
+-- the kind of a call by its caller, and of a line with a store of n words: what is answered at once is known by its number
+abbrev pub callKind : Caller → Asked → Kind
+callKind (Caller·Known d) (OnStore c) = kind.Access d c
+callKind (Caller·Known d) (OnObject c) = kind.Object d c
+callKind (Caller·Known d) (OnDomain c) = kind.Domain d c
+callKind (Caller·Refused why) c = kind.Known (refusalNumber why)
 
--- an access, and a call on objects, answered and printed, in every state with these parts
+abbrev pub kindOf : ℕ → Line → Kind
+kindOf n (Answered a) = kind.Known a
+kindOf n (Boot d) = kind.Boot d
+kindOf n (Call d c) = callKind (callerOf n d) c
+
+-- an access, answered and printed, in every state with these parts
 abbrev pub accessTold : Table → Frame → Access → ℕ → List ℕ → List ℕ → List ℕ → ℕ → List ℕ → ℕ → Type 0
 accessTold t f c number words words′ out at out′ at′ =
     (s : State) (d : ℕ) → d < 4 → s .table ≡ t → domainAt s d .active ≡ f
     → Told number out at out′ at′ (world s words′) (reply unchecked (world s words) (callBy d (OnStore c)))
 
-abbrev pub objectTold : Table → Accounts → ℕ → Frame → ObjectCall → ℕ → List ℕ → List ℕ → List ℕ → ℕ → List ℕ → NewEstate → Type 0
-objectTold t x d f c number words words′ out at out′ r =
-    (s : State) → s .table ≡ t → s .accounts ≡ x → (d < 4 → domainAt s d .active ≡ f)
-    → Told number out at out′ (r .at) (world (withEstate s (r .place) (r .estate)) words′) (reply unchecked (world s words) (callBy d (OnObject c)))
+-- a call on objects, answered and printed: what it hands back, and the text of its answer
+pub record ObjectTold (t : Table) (x : Accounts) (d : ℕ) (f : Frame) (c : ObjectCall) (number : ℕ) (words words′ out : List ℕ) (at : ℕ) (out′ : List ℕ)
+    (r : NewEstate) : Type 0 where
+  pub altered : Altered
+  pub alters : Alters t x d f words c altered words′
+  pub place : r .place ≡ altered .place
+  pub estate : r .estate ≡ altered .estate
+  pub text : out′ ≡ printed out at number (numberOf (altered .answer)) (valueOf (altered .answer) ∷ [])
+  pub end : r .at ≡ printedEnd out at number (numberOf (altered .answer)) (valueOf (altered .answer) ∷ [])
 
--- a line that is answered at once
-pub answered-kind : (n a : ℕ) {l : Line} → l ≡ Answered a → IsKind (kind.Known a) n l
-unfolding reply
-answered-kind n a e plan w h = rw e
+-- what a kind tells of the line
+abbrev pub IsKind : Kind → ℕ → Line → Type 0
+IsKind (kind.Known number) n l = (plan : List ℕ) (w : World) → length (w .words) ≡ n → reply unchecked w (reads l plan) ≡ record { number = number; values = 0 ∷ []; world = w }
+IsKind (kind.Access d c) n l = (d < 4) × (l ≡ Call d (OnStore c))
+IsKind (kind.Object d c) n l = (d < 4) × (l ≡ Call d (OnObject c))
+IsKind (kind.Domain d c) n l = (d < 4) × (l ≡ Call d (OnDomain c))
+IsKind (kind.Boot d) n l = l ≡ Boot d
 
 -- a caller that is known, with a store of n words
-pub known-caller : (n d k : ℕ) → callerOf n d ≡ Caller·Known k → (n ≡ 8192) × (k < 4) × (k ≡ d)
+known-caller : (n d k : ℕ) → callerOf n d ≡ Caller·Known k → (k < 4) × (k ≡ d)
 known-caller n d k h =
     let zero : ℕ = 0 in
     let l : length (replicate n zero) ≡ n = length-replicate n zero in
     let (e, q) = caller-known (replicate n zero) d k (rw l h) in
-    (sym l ∙ e .long, rw q (e .known), q)
+    (rw q (e .known), q)
 
--- a call of a caller that is not known is refused
-pub refused-kind : (n d : ℕ) (c : Asked) (why : Refusal) → callerOf n d ≡ Caller·Refused why → IsKind (kind.Known (refusalNumber why)) n (Call d c)
+kind-tells : (n : ℕ) (l : Line) → IsKind (kindOf n l) n l
 unfolding reply
-refused-kind n d c why h plan w k = rw (← by-caller (w .state) (w .words) d c why (rw k h))
+kind-tells n (Answered a) = λ plan w h. refl
+kind-tells n (Boot d) = refl
+kind-tells n (Call d c) = go (callerOf n d) refl c
+  where
+    go : (x : Caller) → callerOf n d ≡ x → (c : Asked) → IsKind (callKind x c) n (Call d c)
+    go (Caller·Known k) e (OnStore a) = let (l, q) = known-caller n d k e in (l, rw q)
+    go (Caller·Known k) e (OnObject a) = let (l, q) = known-caller n d k e in (l, rw q)
+    go (Caller·Known k) e (OnDomain a) = let (l, q) = known-caller n d k e in (l, rw q)
+    go (Caller·Refused why) e c = λ plan w h. rw (← by-caller (w .state) (w .words) d c why (rw h e))
+
+pub tells : {k : Kind} (n : ℕ) (l : Line) → k ≡ kindOf n l → IsKind k n l
+tells n l e = rw e (kind-tells n l)
 
 -- how the calls are printed
 pub access-told : (t : Table) (f : Frame) (c : Access) (a : Answer) (words words′ out : List ℕ) (at n : ℕ) {out′ : List ℕ} {at′ : ℕ}
@@ -82,12 +105,16 @@ pub access-told : (t : Table) (f : Frame) (c : Access) (a : Answer) (words words
 unfolding reply
 access-told t f c a words words′ out at n g p q s d e i j = rw (← g s d e i j) (record { text = p; end = q; world = refl; few = omega arith })
 
-pub object-told : (t : Table) (x : Accounts) (d : ℕ) (f : Frame) (c : ObjectCall) (r : Altered) (words words′ out : List ℕ) (at n : ℕ) {out′ : List ℕ} {at′ : ℕ}
-    → Alters t x d f words c r words′
-    → out′ ≡ printed out at n (numberOf (r .answer)) (valueOf (r .answer) ∷ []) → at′ ≡ printedEnd out at n (numberOf (r .answer)) (valueOf (r .answer) ∷ [])
-    → objectTold t x d f c n words words′ out at out′ (record { place = r .place; estate = r .estate; at = at′ })
+pub object-told : {t : Table} {x : Accounts} {d : ℕ} {f : Frame} {c : ObjectCall} {n : ℕ} {words words′ out : List ℕ} {at : ℕ} {out′ : List ℕ} {r : NewEstate}
+    → ObjectTold t x d f c n words words′ out at out′ r → (s : State) → s .table ≡ t → s .accounts ≡ x → (d < 4 → domainAt s d .active ≡ f)
+    → Told n out at out′ (r .at) (world (withEstate s (r .place) (r .estate)) words′) (reply unchecked (world s words) (callBy d (OnObject c)))
 unfolding reply
-object-told t x d f c r words words′ out at n g p q s i a j = rw (← g .does s i a j) (record { text = p; end = q; world = refl; few = omega arith })
+object-told o s i a j = rw (← o .alters .does s i a j) (record { text = o .text; end = o .end; world = rw (o .place, o .estate); few = omega arith })
+
+-- the estate that it hands back is one of the four
+pub object-place : {t : Table} {x : Accounts} {d : ℕ} {f : Frame} {c : ObjectCall} {n : ℕ} {words words′ out : List ℕ} {at : ℕ} {out′ : List ℕ} {r : NewEstate}
+    → ObjectTold t x d f c n words words′ out at out′ r → r .place < 4
+object-place o = rw (o .place) (o .alters .place)
 
 pub domain-told : (t : Table) (m : Domain) (c : DomainCall) (r : Moved) (words out : List ℕ) (at n : ℕ) {out′ : List ℕ} {at′ : ℕ}
     → Moves t m words c r → length (r .fields .values) ≡ 11

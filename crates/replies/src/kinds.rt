@@ -17,14 +17,13 @@ use text::answer_number;
 use text::answer_value;
 use text::put_line;
 ghost use mathlib.Core.Path.{_≡_};
-ghost use Prim.Native.Nat.{_<_};
-ghost use Rattle.lines.specs.declared.Line.the-variants.{Call as Line·Call};
-ghost use Rattle.replies.specs.Kinds.{IsKind, accessTold, objectTold};
+ghost use Rattle.calls.specs.Parts.{callerOf};
+ghost use Rattle.calls.specs.declared.Caller.the-variants.{Known as Caller·Known};
+ghost use Rattle.replies.specs.Kinds.{callKind, kindOf, accessTold, ObjectTold};
 
 // A call of a domain that is known.
-fn known_kind(d: usize, call: Call, words: usize) -> Kind
-    requires { ⌜ (d < 4) × (words ≡ 8192) ⌝ }
-    ensures { λ r. ⌜ IsKind r words (Line·Call d call) ⌝ }
+fn known_kind(d: usize, call: Call) -> Kind
+    ensures { λ r. ⌜ r ≡ callKind (Caller·Known d) call ⌝ }
 {
     match call {
         Call::OnStore(c) => return Kind::Access(d, c),
@@ -35,18 +34,18 @@ fn known_kind(d: usize, call: Call, words: usize) -> Kind
 
 // A call; refused by 2 or 4 where its caller is not known.
 fn call_kind(d: u64, call: Call, words: usize) -> Kind
-    ensures { λ r. ⌜ IsKind r words (Line·Call d call) ⌝ }
+    ensures { λ r. ⌜ r ≡ callKind (callerOf words d) call ⌝ }
 {
     let caller = caller_of(words, d);
     match caller {
-        Caller::Known(k) => return known_kind(k, call, words),
+        Caller::Known(k) => return known_kind(k, call),
         Caller::Refused(why) => return Kind::Known(refusal_number(why)),
     }
 }
 
 // A line, with a store of so many words.
 pub fn kind_of(words: usize, reading: Line) -> Kind
-    ensures { λ r. ⌜ IsKind r words reading ⌝ }
+    ensures { λ r. ⌜ r ≡ kindOf words reading ⌝ }
 {
     match reading {
         Line::Answered(number) => return Kind::Known(number as u64),
@@ -83,7 +82,7 @@ pub fn object_line(
     out: &mut [u8],
     at: usize,
 ) -> NewEstate
-    ensures { λ r. ⌜ objectTold t x d f call number (now (store .entry)) (now (store .exit)) (now (out .entry)) at (now (out .exit)) r × (r .place < 4) ⌝ }
+    ensures { λ r. ⌜ ObjectTold t x d f call number (now (store .entry)) (now (store .exit)) (now (out .entry)) at (now (out .exit)) r ⌝ }
 {
     let r = object_call(t, x, store, d as u64, f, call);
     let a = r.answer;

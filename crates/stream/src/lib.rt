@@ -24,7 +24,7 @@ ghost use Prim.Native.Nat.{_≤_, min};
 ghost use lib.ListN.{length, take};
 ghost use Rattle.calls.specs.Step.{unchecked};
 ghost use Rattle.stream.specs.Run.{nextNumber, header};
-ghost use Rattle.stream.specs.Feed.{startFeed, progressOf, finishedText, finishedEnd, roomFor, stopped, onHeld};
+ghost use Rattle.stream.specs.Feed.{startFeed, progressOf, finishedText, finishedEnd, roomFor, stopped, heldBytes, onHeld};
 
 mod held;
 
@@ -137,7 +137,7 @@ fn state_of(table: Table, domains: [Domain; 4], accounts: Accounts) -> State
 // Takes bytes of a piece, answers the lines that end there into `out`, and stops where the longest answer has no room.
 pub fn feed_piece(f: Feed, store: &mut [u64], piece: &[u8], out: &mut [u8]) -> Feed
     ensures { λ r. ⌜ progressOf r (now (store .exit)) (now (out .exit)) ≡ foldl (onHeld unchecked) (progressOf f (now (store .entry)) (now (out .entry))) (take (r .taken) (now (piece .entry))) ⌝ }
-    ensures { λ r. ⌜ (r .taken ≤ length (now (piece .entry))) × (stopped (length (now (piece .entry))) (length (now (out .entry))) (r .taken) (r .at) ≡ true) × (r .at ≤ length (now (out .entry))) ⌝ }
+    ensures { λ r. ⌜ (r .taken ≤ length (now (piece .entry))) × (stopped (length (now (piece .entry))) (length (now (out .entry))) (r .taken) (r .at) ≡ true) × (r .at ≤ length (now (out .entry))) × (r .held ≤ heldBytes) ⌝ }
 {
     let s = f.state;
     let mut table = s.table;

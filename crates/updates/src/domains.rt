@@ -21,7 +21,7 @@ pub fn save_domain(m: Domain, f: Frame) -> Domain
     r
 }
 
-// The frame saved last comes back, and its place is cleared. With none saved nothing changes.
+// The frame saved last comes back, and its place is cleared. With none saved, or more than four, nothing changes.
 pub fn restore_domain(m: Domain) -> Domain
     ensures { λ r. ⌜ r ≡ restoreDomain m ⌝ }
 {

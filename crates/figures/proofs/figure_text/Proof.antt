@@ -15,4 +15,5 @@ figure-text-spec =
     let q = c .before .before .before .before .before .before .before .put-figure2 .ensures in
     let r = c .before .before .before .before .put-figure3 .ensures in
     let s = c .before .put-figure4 .ensures in
-    (then (then (then (p .0) (q .0)) (r .0)) (s .0) .text, omega arith)))
+    let all = then (then (then (p .0) (q .0)) (r .0)) (s .0) in
+    (all .text, omega arith, all .rest)))

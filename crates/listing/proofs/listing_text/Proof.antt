@@ -18,4 +18,5 @@ listing-text-spec =
     let q = c .before .before .before .before .before .before .before .before .before .put-estate2 .ensures in
     let r = c .before .before .before .before .before .put-estate3 .ensures in
     let s = c .before .put-estate4 .ensures in
-    (then (then (then (then h (p .0)) (q .0)) (r .0)) (s .0) .text, omega (arith, h .size))))
+    let all = then (then (then (then h (p .0)) (q .0)) (r .0)) (s .0) in
+    (all .text, omega (arith, h .size), all .rest)))

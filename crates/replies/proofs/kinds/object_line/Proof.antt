@@ -1,5 +1,5 @@
+use mathlib.Core.Path.{refl}
 use borrow.Author.Needs.{needs}
-use Rattle.replies.specs.Kinds.{object-told}
 use Rattle.replies.proofs.kinds.object_line.Statement.{statement}
 use Rattle.replies.proofs.kinds.object_line.Tie as tie
 
@@ -11,5 +11,4 @@ object-line-spec =
     let p = c .before .before .before in
     let r = p .before .before .before .before .before .before .before .object-call in
     let e = rw (p .before .before .answer-value .ensures, p .before .before .before .answer-number .ensures) at (p .put-line .ensures) in
-    let a = p .before .before .before .before .before .before .before .before .before .before .before .args in
-    (object-told (a .t) (a .x) (a .d) (a .f) (a .call) (r .result) _ _ (a .out .now) (a .at) (a .number) (r .ensures) (e .0) (e .1), r .ensures .place)))
+    record { altered = r .result; alters = r .ensures; place = refl; estate = refl; text = e .0; end = e .1 }))
