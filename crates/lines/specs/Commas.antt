@@ -22,7 +22,7 @@ use Rattle.lines.specs.Arguments.{numbersOf}
 use Rattle.lines.specs.Taking.{isNumber}
 use Rattle.lines.specs.Keeping.{given, argumentsOf}
 use Rattle.lines.specs.Letters.{lettersOf}
-use Rattle.lines.specs.Reading.{Reading, answered, unreadable}
+use Rattle.lines.specs.Reading.{answered, unreadable}
 use Rattle.lines.specs.Grammar.{lineBytes, callOf, withArguments, lineWith, lineOf}
 
 domain-bad : (f : Field) (fs : List (List ℕ)) → isNumber f ≡ false → unreadable ≡ lineWith f fs
