@@ -30,7 +30,8 @@ told-text out at number answer vs {out′} {at′} h l p e =
     let z : at ≤ length out = omega arith in
     rw (p, e, le-leb (at + (42 + 21 * length vs)) (length out) k) (up-to-end out at (answerLine number answer vs) z)
 
-told-end : (out : List ℕ) (at number answer : ℕ) (vs : List ℕ) {at′ : ℕ} → at + 273 ≤ length out → length vs ≤ 11 → at′ ≡ printedEnd out at number answer vs → at′ ≤ length out
+told-end : (out : List ℕ) (at number answer : ℕ) (vs : List ℕ) {at′ : ℕ} → at + 273 ≤ length out → length vs ≤ 11 → at′ ≡ printedEnd out at number answer vs
+    → at′ ≤ length out
 told-end out at number answer vs {at′} h l e =
     let k : at + (42 + 21 * length vs) ≤ length out = omega arith in
     let z : at′ ≡ at + length (answerLine number answer vs) = rw (e, le-leb (at + (42 + 21 * length vs)) (length out) k) in

@@ -44,7 +44,8 @@ pub stands-told : {a : Progress} {piece : List ℕ} {n size : ℕ} {s : State} {
     {l : Line} {number′ : ℕ} {line′ : List ℕ} {s′ : State} {words′ out′ : List ℕ} {at′ : ℕ} (reading : Line) (plan : List ℕ)
     → Stands a piece n size s words number line held out at from → end ≡ from + until 10 (drop from piece) → (end ≡ length piece → ⊥)
     → reads reading plan ≡ lineOf (foldl heldByte (take held line) (take (end - from) (drop from piece))) → number′ ≡ nextNumber number → length line′ ≡ length line
-    → reading ≡ l → at + 273 ≤ length out → Told number out at out′ at′ (world s′ words′) (reply unchecked (world s words) (reads l plan)) → length words′ ≡ length words → length out′ ≡ length out
+    → reading ≡ l → at + 273 ≤ length out → Told number out at out′ at′ (world s′ words′) (reply unchecked (world s words) (reads l plan))
+    → length words′ ≡ length words → length out′ ≡ length out
     → Stands a piece n size s′ words′ number′ line′ 0 out′ at′ (end + 1)
 stands-told {line = line} {held = held} {out = out} {at = at} {out′ = out′} {at′ = at′} reading plan v to ne e m k q h t w o =
     record {

@@ -14,7 +14,8 @@ use Rattle.register_call.proofs.obj_cre_pdx.Statement.{statement}
 use Rattle.register_call.proofs.obj_cre_pdx.Tie as tie
 
 -- behind checks 2, 5 and 6
-passed : (c : tie.Else3) → let x = c .before .before .before .before .before .args in let call = OnObject (Register (x .base) (x .password) (x .list) (x .entries)) in (inRange call ≡ true) × (unlocked call (x .f) ≡ true) × (length (x .store .now) ≡ 8192)
+passed : (c : tie.Else3) → let x = c .before .before .before .before .before .args in
+    let call = OnObject (Register (x .base) (x .password) (x .list) (x .entries)) in (inRange call ≡ true) × (unlocked call (x .f) ≡ true) × (length (x .store .now) ≡ 8192)
 unfolding unlocked
 passed c = (holds (c .before .before .register-in-range .ensures) (c .before .if2 .left), ap not (c .if3 .left), c .before .before .before .if1 .left)
 
@@ -24,11 +25,16 @@ obj-cre-pdx-spec =
     tie.close
     (tie.spec (λ c κs. search needs) (λ c u d below. alters-length _ u d _ _ _ (c .before .if1 .taken) (c .unaltered .ensures))
     (λ c κs. search needs) (λ c κs. search needs)
-    (λ c u d below. alters-range _ u d _ _ _ (record { long = c .before .before .before .if1 .left; known = below }) (fails (c .before .before .register-in-range .ensures) (c .before .if2 .taken)) (c .unaltered2 .ensures))
+    (λ c u d below.
+    let l = c .before .before .before .if1 .left in
+    alters-range _ u d _ _ _ (record { long = l; known = below }) (fails (c .before .before .register-in-range .ensures) (c .before .if2 .taken)) (c .unaltered2 .ensures))
     (λ c κs. search needs)
     (λ c u d below. let a = c .before .before in alters-lock _ u d _ _ _ (record { long = a .before .before .if1 .left; known = below }) (holds (a .before .register-in-range .ensures) (a .if2 .left)) (ap not (c .before .if3 .taken)) (c .unaltered3 .ensures))
     (λ c κs. search needs) (λ c. search needs)
-    (λ c. search needs) (λ c κs. search needs) (λ c u d below. let j = c .before .before .before in let p = passed (j .before) in based-late _ u d _ _ _ (record { long = p .2; known = below }) refl (p .0) (p .1) (j .judge .ensures) (c .before .enum-told .given .1)
+    (λ c. search needs) (λ c κs. search needs)
+    (λ c u d below.
+    let j = c .before .before .before in let p = passed (j .before) in
+    based-late _ u d _ _ _ (record { long = p .2; known = below }) refl (p .0) (p .1) (j .judge .ensures) (c .before .enum-told .given .1)
     (λ v s. rw (s .found)) (c .unaltered4 .ensures))
     (λ c κs.
     register-range _ _ _ _ (passed (c .before .before .before .before) .0) .page)
