@@ -7,10 +7,10 @@ use Rattle.access_calls.specs.declared.Grant.{Grant}
 use Rattle.access_calls.specs.declared.Grant.TheVariants as grant
 
 -- what a judgement gives
-abbrev pub grantOf : Judgement → Grant
-grantOf (Granted pair) = grant.Granted pair
-grantOf Refused = grant.Refused NotGranted
+abbrev pub grant_of : Judgement → Grant
+grant_of (Granted pair) = grant.Granted pair
+grant_of Refused = grant.Refused NotGranted
 
 -- the same where a store of n words has its length, and the address lies in it
-abbrev pub accessedBy : ℕ → ℕ → Judgement → Grant
-accessedBy n a j = cond (eqb n 8192) (cond (ltb a 8192) (grantOf j) (grant.Refused OutOfRange)) (grant.Refused StoreLength)
+abbrev pub accessed_by : ℕ → ℕ → Judgement → Grant
+accessed_by n a j = cond (eqb n 8192) (cond (ltb a 8192) (grant_of j) (grant.Refused OutOfRange)) (grant.Refused StoreLength)

@@ -3,7 +3,7 @@ use Rattle.std.specs.Prelude.{ℕ, ◌<◌, ◌≡◌, Bool, true, false, cond, 
 use Rattle.std.proofs.Math.Path.{refl}
 use Rattle.std.proofs.Common.{ap, ◌∙◌, arith, eqb-true, ltb-true, lt-ltb}
 use Rattle.rights.specs.Modes.{read, write, execute}
-use Rattle.state.specs.Places.{domainAt}
+use Rattle.state.specs.Places.{domain_at}
 use Rattle.state.specs.declared.Table.{Table}
 use Rattle.state.specs.declared.Frame.{Frame}
 use Rattle.state.specs.declared.State.{State}
@@ -13,9 +13,9 @@ use Rattle.judge.specs.declared.Judgement.{Judgement}
 use Rattle.judge.specs.declared.Judgement.TheVariants.{Granted, Refused}
 use Rattle.calls.specs.View.{World, rights, search, check, is_some}
 use Rattle.calls.specs.Rules.{rule, in_range, unlocked, late, changes, view}
-use Rattle.calls.specs.Step.{world, result, answeredWith, done, unchecked}
+use Rattle.calls.specs.Step.{world, result_of, answered_with, done, unchecked}
 use Rattle.calls.specs.Parts.{Answers}
-use Rattle.calls.specs.Laws.Returns.{by-caller, by-range, by-late, by-done}
+use Rattle.calls.specs.Laws.Returns.{by_caller, by_range, by_late, by_done}
 use Rattle.calls.specs.declared.Call.TheVariants.{OnStore}
 use Rattle.calls.specs.declared.Caller.TheVariants.{Refused as Caller-as-Refused}
 use Rattle.calls.specs.declared.Access.{Access}
@@ -24,34 +24,34 @@ use Rattle.calls.specs.declared.Answer.{Answer}
 use Rattle.calls.specs.declared.Answer.TheVariants.{Done, Refused as Answer-as-Refused}
 use Rattle.calls.specs.declared.Refusal.{Refusal}
 use Rattle.calls.specs.declared.Refusal.TheVariants.{StoreLength, OutOfRange, NotGranted}
-use Rattle.access_calls.specs.Accessed.{grantOf, accessedBy}
+use Rattle.access_calls.specs.Accessed.{grant_of, accessed_by}
 use Rattle.access_calls.specs.declared.Grant.{Grant}
 use Rattle.access_calls.specs.declared.Grant.TheVariants as grant
 
 -- a granted address lies in the store, and its judgement is the grant
-granted-by : (n a : ℕ) (j : Judgement) {pair : ℕ} → accessedBy n a j ≡ grant.Granted pair → (n ≡ 8192) × (a < 8192) × (j ≡ Granted pair)
-granted-by n a j {pair} h = go (eqb n 8192) (ltb a 8192) refl refl j h
+granted_by : (n a : ℕ) (j : Judgement) {pair : ℕ} → accessed_by n a j ≡ grant.Granted pair → (n ≡ 8192) × (a < 8192) × (j ≡ Granted pair)
+granted_by n a j {pair} h = go (eqb n 8192) (ltb a 8192) refl refl j h
   where
     go : (l b : Bool) → eqb n 8192 ≡ l → ltb a 8192 ≡ b → (j : Judgement)
-        → cond l (cond b (grantOf j) (grant.Refused OutOfRange)) (grant.Refused StoreLength) ≡ grant.Granted pair → (n ≡ 8192) × (a < 8192) × (j ≡ Granted pair)
+        → cond l (cond b (grant_of j) (grant.Refused OutOfRange)) (grant.Refused StoreLength) ≡ grant.Granted pair → (n ≡ 8192) × (a < 8192) × (j ≡ Granted pair)
     go true true i e (Granted p) k = (eqb-true n 8192 i, ltb-true a 8192 e, cc)
     go true true i e Refused k = let z : ◌≡◌ {A = ℕ} 0 1 = cc in absurd (omega arith)
     go true false i e j k = let z : ◌≡◌ {A = ℕ} 0 1 = cc in absurd (omega arith)
     go false b i e j k = let z : ◌≡◌ {A = ℕ} 0 1 = cc in absurd (omega arith)
 
 -- rights in range leave the address's range alone
-rights-range : (a r : ℕ) → ltb 0 r && ltb r 32 ≡ true → in_range (OnStore (Lookup a r)) ≡ ltb a 8192
+rights_range : (a r : ℕ) → ltb 0 r && ltb r 32 ≡ true → in_range (OnStore (Lookup a r)) ≡ ltb a 8192
 unfolding in_range
-rights-range a r k = go (ltb a 8192)
+rights_range a r k = go (ltb a 8192)
   where
     go : (b : Bool) → b && ltb 0 r && ltb r 32 ≡ b
     go true = k
     go false = refl
 
 -- and others are out of it
-pub rights-out : (a r : ℕ) → ltb 0 r && ltb r 32 ≡ false → in_range (OnStore (Lookup a r)) ≡ false
+pub rights_out : (a r : ℕ) → ltb 0 r && ltb r 32 ≡ false → in_range (OnStore (Lookup a r)) ≡ false
 unfolding in_range
-rights-out a r k = go (ltb a 8192) (ltb 0 r) (ltb r 32) k
+rights_out a r k = go (ltb a 8192) (ltb 0 r) (ltb r 32) k
   where
     go : (x y z : Bool) → y && z ≡ false → x && y && z ≡ false
     go true y z h = h
@@ -60,33 +60,33 @@ rights-out a r k = go (ltb a 8192) (ltb 0 r) (ltb r 32) k
 -- an access at `a` for the rights `r`: the address is its only range, no lock stops it, and check 7 is its search
 module _ (t : Table) (f : Frame) (words : List ℕ) (c : Access) (a r : ℕ) (range : in_range (OnStore c) ≡ ltb a 8192)
     (free : (g : Frame) → unlocked (OnStore c) g ≡ true)
-    (asks : (d : ℕ) (w : World) → late d (OnStore c) (view judged w d (OnStore c)) ≡ check NotGranted (is_some (search judged w (domainAt w.state d).active (rights (Address a) r))) ∷ []) where
+    (asks : (d : ℕ) (w : World) → late d (OnStore c) (view judged w d (OnStore c)) ≡ check NotGranted (is_some (search judged w (domain_at w.state d).active (rights (Address a) r))) ∷ []) where
   -- refused where checks 2, 5 and 7 refuse it
-  access-refused : {why : Refusal} → accessedBy (length words) a (judged t words f (Address a) r) ≡ grant.Refused why
+  access_refused : {why : Refusal} → accessed_by (length words) a (judged t words f (Address a) r) ≡ grant.Refused why
       → Answers t f words c (Answer-as-Refused why) words
-  access-refused {why} h s d e p q = go (eqb (length words) 8192) (ltb a 8192) refl refl (judged t words f (Address a) r) refl h
+  access_refused {why} h s d e p q = go (eqb (length words) 8192) (ltb a 8192) refl refl (judged t words f (Address a) r) refl h
     where
       go : (l b : Bool) → eqb (length words) 8192 ≡ l → ltb a 8192 ≡ b → (j : Judgement) → judged t words f (Address a) r ≡ j
-          → cond l (cond b (grantOf j) (grant.Refused OutOfRange)) (grant.Refused StoreLength) ≡ grant.Refused why
-          → result (answeredWith s (Answer-as-Refused why)) words ≡ unchecked (world s words) d (OnStore c)
+          → cond l (cond b (grant_of j) (grant.Refused OutOfRange)) (grant.Refused StoreLength) ≡ grant.Refused why
+          → result_of (answered_with s (Answer-as-Refused why)) words ≡ unchecked (world s words) d (OnStore c)
       go true true n i (Granted pair) g k = let z : ◌≡◌ {A = ℕ} 0 1 = cc in absurd (omega arith)
       go true true n i Refused g k =
           let w : why ≡ NotGranted = cc in
-          by-late s words d (OnStore c) (record { long = eqb-true _ 8192 n; known = e }) {why = NotGranted} (range ∙ i) (free _) (rw (asks d (world s words), p, q, g)) (rw w)
+          by_late s words d (OnStore c) (record { long = eqb-true _ 8192 n; known = e }) {why = NotGranted} (range ∙ i) (free _) (rw (asks d (world s words), p, q, g)) (rw w)
       go true false n i j g k =
           let w : why ≡ OutOfRange = cc in
-          by-range s words d (OnStore c) (record { long = eqb-true _ 8192 n; known = e }) (range ∙ i) (rw w)
-      go false b n i j g k = let w : StoreLength ≡ why = cc in by-caller s words d (OnStore c) why (rw n (ap Caller-as-Refused w))
+          by_range s words d (OnStore c) (record { long = eqb-true _ 8192 n; known = e }) (range ∙ i) (rw w)
+      go false b n i j g k = let w : StoreLength ≡ why = cc in by_caller s words d (OnStore c) why (rw n (ap Caller-as-Refused w))
 
   -- done where it is granted
-  access-granted : {pair : ℕ} {x : Answer} {words' : List ℕ} → accessedBy (length words) a (judged t words f (Address a) r) ≡ grant.Granted pair
-      → ((s : State) (d : ℕ) → judged s.table words (domainAt s d).active (Address a) r ≡ Granted pair
-      → result (answeredWith s x) words' ≡ done (world s words) d (OnStore c) (view judged (world s words) d (OnStore c)))
+  access_granted : {pair : ℕ} {x : Answer} {words' : List ℕ} → accessed_by (length words) a (judged t words f (Address a) r) ≡ grant.Granted pair
+      → ((s : State) (d : ℕ) → judged s.table words (domain_at s d).active (Address a) r ≡ Granted pair
+      → result_of (answered_with s x) words' ≡ done (world s words) d (OnStore c) (view judged (world s words) d (OnStore c)))
       → Answers t f words c x words'
-  access-granted {pair} h k s d e p q =
-      let (n, l, g) = granted-by (length words) a (judged t words f (Address a) r) h in
-      let u : judged s.table words (domainAt s d).active (Address a) r ≡ Granted pair = rw (p, q) g in
-      by-done s words d (OnStore c) (record { long = n; known = e }) (range ∙ lt-ltb a 8192 l) (free _) (rw (asks d (world s words), u)) (k s d u)
+  access_granted {pair} h k s d e p q =
+      let (n, l, g) = granted_by (length words) a (judged t words f (Address a) r) h in
+      let u : judged s.table words (domain_at s d).active (Address a) r ≡ Granted pair = rw (p, q) g in
+      by_done s words d (OnStore c) (record { long = n; known = e }) (range ∙ lt-ltb a 8192 l) (free _) (rw (asks d (world s words), u)) (k s d u)
 
 -- the address of an access, the rights that it wants, and whether these are in range
 abbrev pub address_of : Access → ℕ
@@ -95,17 +95,17 @@ address_of (Write a x) = a
 address_of (Execute a) = a
 address_of (Lookup a r) = a
 
-abbrev pub rightsOf : Access → ℕ
-rightsOf (Read a) = read
-rightsOf (Write a x) = write
-rightsOf (Execute a) = execute
-rightsOf (Lookup a r) = r
+abbrev pub rights_of : Access → ℕ
+rights_of (Read a) = read
+rights_of (Write a x) = write
+rights_of (Execute a) = execute
+rights_of (Lookup a r) = r
 
-abbrev pub rightsOk : Access → Bool
-rightsOk (Read a) = true
-rightsOk (Write a x) = true
-rightsOk (Execute a) = true
-rightsOk (Lookup a r) = ltb 0 r && ltb r 32
+abbrev pub rights_ok : Access → Bool
+rights_ok (Read a) = true
+rights_ok (Write a x) = true
+rights_ok (Execute a) = true
+rights_ok (Lookup a r) = ltb 0 r && ltb r 32
 
 -- what a granted one answers, and the words that it leaves
 abbrev pub gives : Access → List ℕ → ℕ → ℕ
@@ -122,27 +122,27 @@ leaves (Lookup a r) words = words
 
 module _ (t : Table) (f : Frame) (words : List ℕ) where
   -- what checks 2, 5 and 7 give an access
-  abbrev pub grantTo : Access → Grant
-  grantTo c = accessedBy (length words) (address_of c) (judged t words f (Address (address_of c)) (rightsOf c))
+  abbrev pub grant_to : Access → Grant
+  grant_to c = accessed_by (length words) (address_of c) (judged t words f (Address (address_of c)) (rights_of c))
 
   -- a granted one lies in the store
-  pub within : (c : Access) {pair : ℕ} → grantTo c ≡ grant.Granted pair → address_of c < length words
+  pub within : (c : Access) {pair : ℕ} → grant_to c ≡ grant.Granted pair → address_of c < length words
   within c h =
-      let (n, l, g) = granted-by (length words) (address_of c) (judged t words f (Address (address_of c)) (rightsOf c)) h in
+      let (n, l, g) = granted_by (length words) (address_of c) (judged t words f (Address (address_of c)) (rights_of c)) h in
       omega arith
 
   -- AN ACCESS IS REFUSED AS CHECKS 2, 5 AND 7 REFUSE IT
-  pub refused : (c : Access) {why : Refusal} → rightsOk c ≡ true → grantTo c ≡ grant.Refused why → Answers t f words c (Answer-as-Refused why) words
+  pub refused : (c : Access) {why : Refusal} → rights_ok c ≡ true → grant_to c ≡ grant.Refused why → Answers t f words c (Answer-as-Refused why) words
   unfolding in_range unlocked late view
-  refused (Read a) k h = access-refused t f words (Read a) a read refl (λ g. refl) (λ d w. refl) h
-  refused (Write a x) k h = access-refused t f words (Write a x) a write refl (λ g. refl) (λ d w. refl) h
-  refused (Execute a) k h = access-refused t f words (Execute a) a execute refl (λ g. refl) (λ d w. refl) h
-  refused (Lookup a r) k h = access-refused t f words (Lookup a r) a r (rights-range a r k) (λ g. refl) (λ d w. refl) h
+  refused (Read a) k h = access_refused t f words (Read a) a read refl (λ g. refl) (λ d w. refl) h
+  refused (Write a x) k h = access_refused t f words (Write a x) a write refl (λ g. refl) (λ d w. refl) h
+  refused (Execute a) k h = access_refused t f words (Execute a) a execute refl (λ g. refl) (λ d w. refl) h
+  refused (Lookup a r) k h = access_refused t f words (Lookup a r) a r (rights_range a r k) (λ g. refl) (λ d w. refl) h
 
   -- AND DONE WHERE IT IS GRANTED
-  pub granted : (c : Access) {pair : ℕ} → rightsOk c ≡ true → grantTo c ≡ grant.Granted pair → Answers t f words c (Done (gives c words pair)) (leaves c words)
+  pub granted : (c : Access) {pair : ℕ} → rights_ok c ≡ true → grant_to c ≡ grant.Granted pair → Answers t f words c (Done (gives c words pair)) (leaves c words)
   unfolding in_range unlocked late view changes rule
-  granted (Read a) k h = access-granted t f words (Read a) a read refl (λ g. refl) (λ d w. refl) h (λ s d u. rw u)
-  granted (Write a x) k h = access-granted t f words (Write a x) a write refl (λ g. refl) (λ d w. refl) h (λ s d u. refl)
-  granted (Execute a) k h = access-granted t f words (Execute a) a execute refl (λ g. refl) (λ d w. refl) h (λ s d u. refl)
-  granted (Lookup a r) k h = access-granted t f words (Lookup a r) a r (rights-range a r k) (λ g. refl) (λ d w. refl) h (λ s d u. rw u)
+  granted (Read a) k h = access_granted t f words (Read a) a read refl (λ g. refl) (λ d w. refl) h (λ s d u. rw u)
+  granted (Write a x) k h = access_granted t f words (Write a x) a write refl (λ g. refl) (λ d w. refl) h (λ s d u. refl)
+  granted (Execute a) k h = access_granted t f words (Execute a) a execute refl (λ g. refl) (λ d w. refl) h (λ s d u. refl)
+  granted (Lookup a r) k h = access_granted t f words (Lookup a r) a r (rights_range a r k) (λ g. refl) (λ d w. refl) h (λ s d u. rw u)

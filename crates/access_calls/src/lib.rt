@@ -4,7 +4,7 @@ ghost use Rattle.judge.specs.Judged.{judged};
 ghost use Rattle.judge.specs.declared.Target.TheVariants.{Address};
 ghost use Rattle.calls.specs.Parts.{Answers};
 ghost use Rattle.calls.specs.declared.Access.TheVariants.{Read, Write, Execute, Lookup};
-ghost use Rattle.access_calls.specs.Accessed.{accessedBy};
+ghost use Rattle.access_calls.specs.Accessed.{accessed_by};
 
 use calls::{Access, Answer, Refusal, STORE_WORDS};
 use judge::{Judgement, Target, judge};
@@ -21,7 +21,7 @@ enum Grant {
 // An access for any rights: the store has its length (check 2), the address lies in it (check 5), and the frame's Clists grant them
 // (check 7).
 fn accessed(t: Table, store: &[u64], f: Frame, address: u64, wanted: Rights) -> Grant
-    ensures { result ≡ accessedBy (length store.now) address (judged t store.now f (Address address) wanted.bits) }
+    ensures { result ≡ accessed_by (length store.now) address (judged t store.now f (Address address) wanted.bits) }
 {
     if store.len() != STORE_WORDS {
         return Grant::Refused(Refusal::StoreLength);

@@ -1,7 +1,7 @@
 // The pages on account: standard input to its end, and then for each account its pages to standard output.
 ghost use Rattle.std.specs.Prelude.{◌≤◌, length, take};
 ghost use Rattle.ending.specs.Printed.{Printed};
-ghost use Rattle.figures.specs.Lines.{figureLines};
+ghost use Rattle.figures.specs.Lines.{figure_lines};
 
 use ending::end_table;
 use figures::{Text, figure_text};
@@ -9,7 +9,7 @@ use turns::transfer::write_text;
 
 // Reads call lines to the end of the input, writes no answers, and gives the figures that they leave.
 fn end_text() -> Text
-    ensures { Printed figureLines (take result.count result.bytes) × (result.count ≤ length result.bytes) }
+    ensures { Printed figure_lines (take result.count result.bytes) × (result.count ≤ length result.bytes) }
 {
     figure_text(end_table())
 }

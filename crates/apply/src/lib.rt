@@ -1,6 +1,6 @@
 // Any call by any domain: the door of the monitor beside `boot`.
 ghost use Rattle.std.specs.Prelude.{◌≡◌, ◌<◌};
-ghost use Rattle.calls.specs.Step.{world, result, step, unchecked};
+ghost use Rattle.calls.specs.Step.{world, result_of, step, unchecked};
 ghost use Rattle.calls.specs.Parts.{Alters, Moves};
 
 use access_calls::access;
@@ -26,7 +26,7 @@ fn known_call(
     call: ObjectCall,
 ) -> Altered
     requires { d < 4 }
-    ensures* { λ r. ⌜ Alters t x d f store.old call r store.new ⌝ }
+    ensures { Alters t x d f store.old call result store.new }
 {
     match call {
         ObjectCall::Create {
@@ -62,7 +62,7 @@ pub fn object_call(
     f: Frame,
     call: ObjectCall,
 ) -> Altered
-    ensures* { λ r. ⌜ Alters t x d f store.old call r store.new ⌝ }
+    ensures { Alters t x d f store.old call result store.new }
 {
     let caller = caller_of(store.len(), d);
     match caller {
@@ -73,7 +73,7 @@ pub fn object_call(
 
 // Any call on the caller's domain.
 pub fn domain_call(t: Table, store: &[u64], m: Domain, call: DomainCall) -> Moved
-    ensures* { λ r. ⌜ Moves t m store.now call r ⌝ }
+    ensures { Moves t m store.now call result }
 {
     if store.len() != STORE_WORDS {
         return stays(m, Refusal::StoreLength);
@@ -91,7 +91,7 @@ pub fn domain_call(t: Table, store: &[u64], m: Domain, call: DomainCall) -> Move
 // A call of domain d, which is known.
 fn carried_out(s: State, store: &mut [u64], d: usize, call: Call) -> Outcome
     requires { d < 4 }
-    ensures* { λ r. ⌜ result r store.new ≡ unchecked (world s store.old) d call ⌝ }
+    ensures { result_of result store.new ≡ unchecked (world s store.old) d call }
 {
     let t = s.table;
     let x = s.accounts;
@@ -106,7 +106,7 @@ fn carried_out(s: State, store: &mut [u64], d: usize, call: Call) -> Outcome
 
 // A call by a domain, with check 3 left out: for a state that is known to be sound.
 pub fn unchecked(s: State, store: &mut [u64], d: u64, call: Call) -> Outcome
-    ensures* { λ r. ⌜ result r store.new ≡ unchecked (world s store.old) d call ⌝ }
+    ensures { result_of result store.new ≡ unchecked (world s store.old) d call }
 {
     let caller = caller_of(store.len(), d);
     match caller {
@@ -118,7 +118,7 @@ pub fn unchecked(s: State, store: &mut [u64], d: u64, call: Call) -> Outcome
 // A call by a domain. The paper's number and values of its answer are those of `step`, case by case: `answer-numbers` and the laws behind it
 // in `calls`, specs/Laws/Numbers.antt.
 pub fn apply(s: State, store: &mut [u64], d: u64, call: Call) -> Outcome
-    ensures* { λ r. ⌜ result r store.new ≡ step (world s store.old) d call ⌝ }
+    ensures { result_of result store.new ≡ step (world s store.old) d call }
 {
     if !admits(s, store) {
         return answered(s, Answer::Refused(Refusal::Unsound));

@@ -1,7 +1,7 @@
 // BT: the state and the store that a boot leaves.
 ghost use Rattle.std.specs.Prelude.{true, ◌≡◌, ◌<◌, length};
-ghost use Rattle.calls.specs.Boot.{accountOf, homeEstate, homeDomain, bootAccounts, bootState, homePair, bootWords, planOk, bootedBy, boot};
-ghost use Rattle.calls.specs.Step.{result};
+ghost use Rattle.calls.specs.Boot.{account_of, home_estate, home_domain, boot_accounts, boot_state, home_pair, boot_words, plan_ok, booted_by, boot};
+ghost use Rattle.calls.specs.Step.{result_of};
 
 use calls::replies::answered;
 use calls::words::zero_words;
@@ -16,8 +16,8 @@ use updates::objects::new_object;
 
 // The estate of domain d after a boot: its first page, with the home password, on the home account.
 fn home_estate(plan: [u64; BOOT_NUMBERS], d: usize) -> Estate
-    requires { (d < 4) × (accountOf plan d < 4) }
-    ensures* { λ r. ⌜ r ≡ homeEstate plan d ⌝ }
+    requires { (d < 4) × (account_of plan d < 4) }
+    ensures { result ≡ home_estate plan d }
 {
     let none = free_object();
     let account = plan[8 + 2 * d] as u8;
@@ -38,7 +38,7 @@ fn home_estate(plan: [u64; BOOT_NUMBERS], d: usize) -> Estate
 // Domain d after a boot: slot 0 names its home object.
 fn home_domain(plan: [u64; BOOT_NUMBERS], d: usize) -> Domain
     requires { d < 4 }
-    ensures* { λ r. ⌜ r ≡ homeDomain plan d ⌝ }
+    ensures { result ≡ home_domain plan d }
 {
     let none = Frame {
         slots: [Capability {
@@ -61,8 +61,8 @@ fn home_domain(plan: [u64; BOOT_NUMBERS], d: usize) -> Domain
 
 // The limits and sets that a boot gives.
 fn boot_accounts(plan: [u64; BOOT_NUMBERS]) -> Accounts
-    requires { planOk plan ≡ true }
-    ensures* { λ r. ⌜ r ≡ bootAccounts plan ⌝ }
+    requires { plan_ok plan ≡ true }
+    ensures { result ≡ boot_accounts plan }
 {
     Accounts {
         limits: [plan[4] as u8, plan[5] as u8, plan[6] as u8, plan[7] as u8],
@@ -76,8 +76,8 @@ fn boot_accounts(plan: [u64; BOOT_NUMBERS]) -> Accounts
 }
 
 fn boot_state(plan: [u64; BOOT_NUMBERS]) -> State
-    requires { planOk plan ≡ true }
-    ensures* { λ r. ⌜ r ≡ bootState plan ⌝ }
+    requires { plan_ok plan ≡ true }
+    ensures { result ≡ boot_state plan }
 {
     State {
         table: Table {
@@ -101,7 +101,7 @@ fn boot_state(plan: [u64; BOOT_NUMBERS]) -> State
 // The first pair of domain d's home object.
 fn home_pair(store: &mut [u64], plan: [u64; BOOT_NUMBERS], d: usize)
     requires { (d < 4) × (length store.old ≡ 8192) }
-    ensures* { λ _. ⌜ store.new ≡ homePair plan d store.old ⌝ }
+    ensures { store.new ≡ home_pair plan d store.old }
 {
     store[2048 * d] = 32 * d as u64 * 256 + Rights::OWNER.bits as u64;
     store[2048 * d + 1] = plan[d];
@@ -110,7 +110,7 @@ fn home_pair(store: &mut [u64], plan: [u64; BOOT_NUMBERS], d: usize)
 // The words after a boot.
 fn boot_words(store: &mut [u64], plan: [u64; BOOT_NUMBERS])
     requires { length store.old ≡ 8192 }
-    ensures* { λ _. ⌜ store.new ≡ bootWords plan ⌝ }
+    ensures { store.new ≡ boot_words plan }
 {
     zero_words(store, 0, 8192);
     home_pair(store, plan, 0);
@@ -122,7 +122,7 @@ fn boot_words(store: &mut [u64], plan: [u64; BOOT_NUMBERS])
 // BT behind checks 2 and 4.
 fn booted(store: &mut [u64], plan: [u64; BOOT_NUMBERS]) -> Outcome
     requires { length store.old ≡ 8192 }
-    ensures* { λ r. ⌜ result r store.new ≡ bootedBy store.old plan ⌝ }
+    ensures { result_of result store.new ≡ booted_by store.old plan }
 {
     if !plan_ok(plan) {
         return answered(empty_state(), Answer::Refused(Refusal::OutOfRange));
@@ -134,7 +134,7 @@ fn booted(store: &mut [u64], plan: [u64; BOOT_NUMBERS]) -> Outcome
 // BT by a domain, with its numbers: home passwords, limits, home accounts and sets. The paper's number and values of its answer:
 // `answer-numbers`, `boot-refused-numbers` and `boot-done-numbers` in `calls`, specs/Laws/Numbers.antt.
 pub fn boot(store: &mut [u64], d: u64, plan: [u64; BOOT_NUMBERS]) -> Outcome
-    ensures* { λ r. ⌜ result r store.new ≡ boot store.old d plan ⌝ }
+    ensures { result_of result store.new ≡ boot store.old d plan }
 {
     let caller = caller_of(store.len(), d);
     match caller {

@@ -27,9 +27,9 @@ pub unless : (a b : Bool) → (a || b) ≡ true → a ≡ false → b ≡ true
 unless true b h e = absurd (true≢false e)
 unless false b h e = h
 
-pub or-unless : (a b : Bool) → (a ≡ false → b ≡ true) → (a || b) ≡ true
-or-unless true b h = refl
-or-unless false b h = h refl
+pub or_unless : (a b : Bool) → (a ≡ false → b ≡ true) → (a || b) ≡ true
+or_unless true b h = refl
+or_unless false b h = h refl
 
 pub or_left : (a b : Bool) → a ≡ true → (a || b) ≡ true
 or_left a b h = rw h

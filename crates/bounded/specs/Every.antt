@@ -21,15 +21,15 @@ below_all ℕ.zero p h = refl
 below_all (suc n) p h = and_both (below_all n p (λ i l. h i (omega arith))) (h n (omega arith))
 
 -- two tests that agree at each place agree
-pub below-same : (n : ℕ) (p q : ℕ → Bool) → ((i : ℕ) → i < n → p i ≡ q i) → below n p ≡ below n q
+pub below_same : (n : ℕ) (p q : ℕ → Bool) → ((i : ℕ) → i < n → p i ≡ q i) → below n p ≡ below n q
 unfolding below
-below-same ℕ.zero p q h = refl
-below-same (suc n) p q h = rw (below-same n p q (λ i l. h i (omega arith)), h n (omega arith))
+below_same ℕ.zero p q h = refl
+below_same (suc n) p q h = rw (below_same n p q (λ i l. h i (omega arith)), h n (omega arith))
 
 -- what holds at each place of a list, and of a new value, holds at each place once the value is put in
-pub set-each : {A : Type 0} (P : ℕ → A → Type 0) (l : List A) (i : ℕ) (v d : A) → i < length l → P i v
+pub set_each : {A : Type 0} (P : ℕ → A → Type 0) (l : List A) (i : ℕ) (v d : A) → i < length l → P i v
     → (k : ℕ) → ((k ≡ i → ⊥) → P k (get_or l k d)) → P k (get_or (set l i v) k d)
-set-each P l i v d h p k q =
+set_each P l i v d h p k q =
     ⊎_elim (λ e. subst (λ (j : ℕ). P j (get_or (set l i v) j d)) (sym e) (rw (get_or-set_same l i v d h) p))
     (λ ne. rw (get_or-set_other l i k v d ne) (q ne)) (same_or_not k i)
 
@@ -37,4 +37,4 @@ set-each P l i v d h p k q =
 pub set_at : {A : Type 0} (P : ℕ → A → Type 0) (l : List A) (i : ℕ) (v d : A) (k : ℕ) → k < length l → (k ≡ i → P i v)
     → ((k ≡ i → ⊥) → P k (get_or l k d)) → P k (get_or (set l i v) k d)
 set_at P l i v d k h p q =
-    ⊎_elim (λ e. set-each P l i v d (omega arith) (p e) k q) (λ ne. rw (get_or-set_other l i k v d ne) (q ne)) (same_or_not k i)
+    ⊎_elim (λ e. set_each P l i v d (omega arith) (p e) k q) (λ ne. rw (get_or-set_other l i k v d ne) (q ne)) (same_or_not k i)

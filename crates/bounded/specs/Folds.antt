@@ -9,15 +9,15 @@ pub record Folding {A : Type 0} (step : A → ℕ → A) (a₀ : A) (s : List �
   pub rest : foldl step a₀ s ≡ foldl step a (drop i s)
 
 module _ {A : Type 0} {step : A → ℕ → A} {a₀ : A} {s : List ℕ} where
-  pub folding-none : Folding step a₀ s 0 a₀
-  folding-none = record { bound = omega arith; rest = refl }
+  pub folding_none : Folding step a₀ s 0 a₀
+  folding_none = record { bound = omega arith; rest = refl }
 
-  pub folding-more : {i : ℕ} {a a' : A} → Folding step a₀ s i a → i < length s → a' ≡ step a (get_or s i 0) → Folding step a₀ s (i + 1) a'
-  folding-more {i} {a} {a'} f h e =
+  pub folding_more : {i : ℕ} {a a' : A} → Folding step a₀ s i a → i < length s → a' ≡ step a (get_or s i 0) → Folding step a₀ s (i + 1) a'
+  folding_more {i} {a} {a'} f h e =
       record { bound = omega arith; rest = f.rest ∙ rw (e, drop-cons s i 0, ← add-one i) }
 
-  pub folding-all : {i : ℕ} {a : A} → Folding step a₀ s i a → length s ≤ i → a ≡ foldl step a₀ s
-  folding-all {i} {a} f h = sym (f.rest ∙ rw (drop_of_length-le s h))
+  pub folding_all : {i : ℕ} {a : A} → Folding step a₀ s i a → length s ≤ i → a ≡ foldl step a₀ s
+  folding_all {i} {a} f h = sym (f.rest ∙ rw (drop_of_length-le s h))
 
 -- the fold of one element more
 pub fold_more : {A : Type 0} (step : A → ℕ → A) (a₀ : A) (s : List ℕ) (i : ℕ) → i < length s

@@ -2,68 +2,68 @@
 use Rattle.std.specs.Prelude.{ℕ, suc, ◌+◌, ◌<◌, ◌≤◌, ◌≡◌, refl, Bool, ◌⊎◌, ltb}
 use Rattle.std.proofs.Common.{sym, ◌∙◌, true≢false, inl, inr, arith, ltb-true, ltb-false, lt-ltb, le-ltb}
 use Rattle.std.proofs.Math.Bool.{true, false, cond}
-use Rattle.bounded.specs.Search.{first, FirstAt, NoneAt, first-cases, first-none, first-at}
+use Rattle.bounded.specs.Search.{first, FirstAt, NoneAt, first_cases, first_none, first_at}
 
 module _ (test : ℕ → Bool) (n : ℕ) where
   -- the first of n places that passes, n where there is none
-  abbrev pub placeFor : ℕ
-  placeFor = first test (λ k. k) n 0 n
+  abbrev pub place_for : ℕ
+  place_for = first test (λ k. k) n 0 n
 
   -- a place that passes, and no place before it
   pub record PlaceFound : Type 0 where
-    pub within : placeFor < n
-    pub passes : test placeFor ≡ true
-    pub before : (j : ℕ) → j < placeFor → test j ≡ false
+    pub within : place_for < n
+    pub passes : test place_for ≡ true
+    pub before : (j : ℕ) → j < place_for → test j ≡ false
 
   -- no place that passes
   pub record PlaceMissing : Type 0 where
-    pub end : placeFor ≡ n
+    pub end : place_for ≡ n
     pub none : (j : ℕ) → j < n → test j ≡ false
 
   -- one or the other
-  pub search-cases : PlaceFound ⊎ PlaceMissing
-  search-cases = go (first-cases test (λ k. k) n 0 n)
+  pub search_cases : PlaceFound ⊎ PlaceMissing
+  search_cases = go (first_cases test (λ k. k) n 0 n)
     where
-      go : FirstAt test (λ k. k) 0 n placeFor ⊎ NoneAt test 0 n → PlaceFound ⊎ PlaceMissing
+      go : FirstAt test (λ k. k) 0 n place_for ⊎ NoneAt test 0 n → PlaceFound ⊎ PlaceMissing
       go (inl r) =
           inl (record { within = omega arith; passes = rw (← r.there) r.holds; before = λ j l. r.before j (omega arith) (omega arith) })
-      go (inr h) = inr (record { end = first-none test (λ k. k) n 0 n h; none = λ j l. h j (omega arith) (omega arith) })
+      go (inr h) = inr (record { end = first_none test (λ k. k) n 0 n h; none = λ j l. h j (omega arith) (omega arith) })
 
   -- a place below n is one that passes
-  pub found_below : placeFor < n → PlaceFound
-  found_below h = go search-cases
+  pub found_below : place_for < n → PlaceFound
+  found_below h = go search_cases
     where
       go : PlaceFound ⊎ PlaceMissing → PlaceFound
       go (inl f) = f
       go (inr m) = absurd (omega arith)
 
   -- where the place is n, none passes
-  pub missing-end : placeFor ≡ n → PlaceMissing
-  missing-end h = go search-cases
+  pub missing_end : place_for ≡ n → PlaceMissing
+  missing_end h = go search_cases
     where
       go : PlaceFound ⊎ PlaceMissing → PlaceMissing
       go (inl f) = absurd (omega arith)
       go (inr m) = m
 
   -- where some place passes, one is found, and it comes no later
-  pub found_some : (k : ℕ) → k < n → test k ≡ true → PlaceFound × (placeFor ≤ k)
-  found_some k l h = go search-cases
+  pub found_some : (k : ℕ) → k < n → test k ≡ true → PlaceFound × (place_for ≤ k)
+  found_some k l h = go search_cases
     where
-      go : PlaceFound ⊎ PlaceMissing → PlaceFound × (placeFor ≤ k)
-      go (inl f) = (f, not-below f (ltb k placeFor) refl)
+      go : PlaceFound ⊎ PlaceMissing → PlaceFound × (place_for ≤ k)
+      go (inl f) = (f, not_below f (ltb k place_for) refl)
         where
-          not-below : PlaceFound → (b : Bool) → ltb k placeFor ≡ b → placeFor ≤ k
-          not-below f true e = absurd (true≢false (sym h ∙ f.before k (ltb-true _ _ e)))
-          not-below f false e = ltb-false _ _ e
+          not_below : PlaceFound → (b : Bool) → ltb k place_for ≡ b → place_for ≤ k
+          not_below f true e = absurd (true≢false (sym h ∙ f.before k (ltb-true _ _ e)))
+          not_below f false e = ltb-false _ _ e
       go (inr m) = absurd (true≢false (sym h ∙ m.none k l))
 
   -- a search for a value stops at the same place
-  pub search-value : {A : Type 0} (value : ℕ → A) (none : A) → placeFor < n → first test value none 0 n ≡ value placeFor
-  search-value value none h =
+  pub search_value : {A : Type 0} (value : ℕ → A) (none : A) → place_for < n → first test value none 0 n ≡ value place_for
+  search_value value none h =
       let f = found_below h in
-      first-at test value none 0 n (value placeFor)
+      first_at test value none 0 n (value place_for)
       (record {
-        place = placeFor;
+        place = place_for;
         from = omega arith;
         below = omega arith;
         there = refl;
@@ -72,8 +72,8 @@ module _ (test : ℕ → Bool) (n : ℕ) where
       })
 
   -- and ends without a value where none passes
-  pub search-none : {A : Type 0} (value : ℕ → A) (none : A) → placeFor ≡ n → first test value none 0 n ≡ none
-  search-none value none h = let m = missing-end h in first-none test value none 0 n (λ j a z. m.none j (omega arith))
+  pub search_none : {A : Type 0} (value : ℕ → A) (none : A) → place_for ≡ n → first test value none 0 n ≡ none
+  search_none value none h = let m = missing_end h in first_none test value none 0 n (λ j a z. m.none j (omega arith))
 
 -- the value at a place, `none` past the last
 abbrev pub value_at : {A : Type 0} → (ℕ → A) → A → ℕ → ℕ → A

@@ -14,9 +14,9 @@ module _ {A : Type 0} (test : ℕ → Bool) (value : ℕ → A) (none : A) where
   first i ℕ.zero = none
   first i (suc n) = cond (test i) (value i) (first (i + 1) n)
 
-  pub first-end : (i n : ℕ) → n ≤ i → first i (n - i) ≡ none
+  pub first_end : (i n : ℕ) → n ≤ i → first i (n - i) ≡ none
   unfolding first
-  first-end i n h = let e : n - i ≡ 0 = omega arith in rw e
+  first_end i n h = let e : n - i ≡ 0 = omega arith in rw e
 
   pub first_step : (i n : ℕ) → i < n → first i (n - i) ≡ cond (test i) (value i) (first (i + 1) (n - (i + 1)))
   unfolding first
@@ -38,18 +38,18 @@ module _ {A : Type 0} {test : ℕ → Bool} {value : ℕ → A} {none : A} {n i 
   stop h p = sym (s.rest ∙ first_step test value none i n h ∙ rw p)
 
   pub over : n ≤ i → none ≡ first test value none 0 n
-  over h = sym (s.rest ∙ first-end test value none i n h)
+  over h = sym (s.rest ∙ first_end test value none i n h)
 
 -- no place from `a` up to `b`, `b` itself left out, passes the test
 pub record Skipped (test : ℕ → Bool) (a b : ℕ) : Type 0 where
   pub upward : a ≤ b
   pub fails : (k : ℕ) → a ≤ k → k < b → test k ≡ false
 
-pub skipped-none : {test : ℕ → Bool} {a : ℕ} → Skipped test a a
-skipped-none = record { upward = omega arith; fails = λ k l h. absurd (omega arith) }
+pub skipped_none : {test : ℕ → Bool} {a : ℕ} → Skipped test a a
+skipped_none = record { upward = omega arith; fails = λ k l h. absurd (omega arith) }
 
-pub skipped-more : {test : ℕ → Bool} {a b : ℕ} → Skipped test a b → test b ≡ false → Skipped test a (b + 1)
-skipped-more {test} {a} {b} s e =
+pub skipped_more : {test : ℕ → Bool} {a b : ℕ} → Skipped test a b → test b ≡ false → Skipped test a (b + 1)
+skipped_more {test} {a} {b} s e =
     record { upward = omega arith; fails = λ k l h. ⊎_elim (λ q. rw q e) (λ ne. s.fails k l (omega arith)) (same_or_not k b) }
 
 -- what holds at place i, and goes from each place to the next up to j, holds at j
@@ -81,10 +81,10 @@ NoneAt test i n = (j : ℕ) → i ≤ j → j < i + n → test j ≡ false
 
 module _ {A : Type 0} (test : ℕ → Bool) (value : ℕ → A) (none : A) where
   -- the search finds the first place that passes, and says `none` where there is none
-  pub first-cases : (i n : ℕ) → FirstAt test value i n (first test value none i n) ⊎ NoneAt test i n
+  pub first_cases : (i n : ℕ) → FirstAt test value i n (first test value none i n) ⊎ NoneAt test i n
   unfolding first
-  first-cases i ℕ.zero = inr (λ j a z. absurd (omega arith))
-  first-cases i (suc n) = go (test i) refl (first-cases (i + 1) n)
+  first_cases i ℕ.zero = inr (λ j a z. absurd (omega arith))
+  first_cases i (suc n) = go (test i) refl (first_cases (i + 1) n)
     where
       go : (t : Bool) → test i ≡ t → FirstAt test value (i + 1) n (first test value none (i + 1) n) ⊎ NoneAt test (i + 1) n
           → FirstAt test value i (suc n) (cond t (value i) (first test value none (i + 1) n)) ⊎ NoneAt test i (suc n)
@@ -101,17 +101,17 @@ module _ {A : Type 0} (test : ℕ → Bool) (value : ℕ → A) (none : A) where
           })
       go false q (inr h) = inr (λ j a z. ⊎_elim (λ e. rw e q) (λ ne. h j (omega arith) (omega arith)) (same_or_not j i))
 
-  pub first-none : (i n : ℕ) → NoneAt test i n → first test value none i n ≡ none
+  pub first_none : (i n : ℕ) → NoneAt test i n → first test value none i n ≡ none
   unfolding first
-  first-none i ℕ.zero h = refl
-  first-none i (suc n) h =
+  first_none i ℕ.zero h = refl
+  first_none i (suc n) h =
       let q : test i ≡ false = h i (omega arith) (omega arith) in
-      rw q (first-none (i + 1) n (λ j a z. h j (omega arith) (omega arith)))
+      rw q (first_none (i + 1) n (λ j a z. h j (omega arith) (omega arith)))
 
-  pub first-at : (i n : ℕ) (a : A) → FirstAt test value i n a → first test value none i n ≡ a
+  pub first_at : (i n : ℕ) (a : A) → FirstAt test value i n a → first test value none i n ≡ a
   unfolding first
-  first-at i ℕ.zero a r = absurd (omega arith)
-  first-at i (suc n) a r = go (same_or_not i r.place) (first-at (i + 1) n a)
+  first_at i ℕ.zero a r = absurd (omega arith)
+  first_at i (suc n) a r = go (same_or_not i r.place) (first_at (i + 1) n a)
     where
       go : (i ≡ r.place) ⊎ (i ≡ r.place → ⊥) → (FirstAt test value (i + 1) n a → first test value none (i + 1) n ≡ a)
           → cond (test i) (value i) (first test value none (i + 1) n) ≡ a
@@ -133,14 +133,14 @@ module _ {A : Type 0} (test : ℕ → Bool) (value : ℕ → A) (none : A) where
           }))
 
 -- two searches that agree at each place agree
-pub first-same : {A : Type 0} (test test' : ℕ → Bool) (value value' : ℕ → A) (none : A) (i n : ℕ)
+pub first_same : {A : Type 0} (test test' : ℕ → Bool) (value value' : ℕ → A) (none : A) (i n : ℕ)
     → ((j : ℕ) → i ≤ j → j < i + n → test j ≡ test' j) → ((j : ℕ) → i ≤ j → j < i + n → value j ≡ value' j)
     → first test value none i n ≡ first test' value' none i n
 unfolding first
-first-same test test' value value' none i ℕ.zero h g = refl
-first-same test test' value value' none i (suc n) h g =
+first_same test test' value value' none i ℕ.zero h g = refl
+first_same test test' value value' none i (suc n) h g =
     rw (
       h i (omega arith) (omega arith),
       g i (omega arith) (omega arith),
-      first-same test test' value value' none (i + 1) n (λ j a z. h j (omega arith) (omega arith)) (λ j a z. g j (omega arith) (omega arith)),
+      first_same test test' value value' none (i + 1) n (λ j a z. h j (omega arith) (omega arith)) (λ j a z. g j (omega arith) (omega arith)),
     )

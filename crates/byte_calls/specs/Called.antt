@@ -1,9 +1,9 @@
 -- What a C function does with its three slices: document 02, T-02.
 use Rattle.std.specs.Prelude.{ℕ, Bool, true, false, cond, ◌&&◌, List, eqb, length}
-use Rattle.layout.specs.Sizes.{stateSize}
+use Rattle.layout.specs.Sizes.{state_size}
 use Rattle.layout.specs.Layout.{state}
 use Rattle.image.specs.Image.{reading}
-use Rattle.calls.specs.Answers.{refusalNumber, values_of}
+use Rattle.calls.specs.Answers.{refusal_number, values_of}
 use Rattle.calls.specs.Step.{Result, world, step}
 use Rattle.calls.specs.Boot.{boot}
 use Rattle.calls.specs.declared.Call.{Call}
@@ -29,34 +29,34 @@ slices image store values = record { image = image; store = store; values = valu
 abbrev pub told : ℕ → Slices → Told
 told n after = record { number = n; after = after }
 
--- refused: what `refused-changes-nothing` (calls) is for the slices, with the values cleared
-abbrev pub refusedBy : ℕ → Slices → Told
-refusedBy n s = told n (slices s.image s.store (cleared s.values))
+-- refused: what `refused_changes_nothing` (calls) is for the slices, with the values cleared
+abbrev pub refused_by : ℕ → Slices → Told
+refused_by n s = told n (slices s.image s.store (cleared s.values))
 
 -- done, the slices hold the state, the words and the values
-abbrev pub answeredAs : Answer → Slices → Outcome → List ℕ → Told
-answeredAs (Done value) s o ws = told 0 (slices (state.put o.state) (words.put ws) (values.put (values_of o)))
-answeredAs (Refused why) s o ws = refusedBy (refusalNumber why) s
+abbrev pub answered_as : Answer → Slices → Outcome → List ℕ → Told
+answered_as (Done value) s o ws = told 0 (slices (state.put o.state) (words.put ws) (values.put (values_of o)))
+answered_as (Refused why) s o ws = refused_by (refusal_number why) s
 
-abbrev pub toldBy : Slices → Outcome → List ℕ → Told
-toldBy s o ws = answeredAs o.answer s o ws
+abbrev pub told_by : Slices → Outcome → List ℕ → Told
+told_by s o ws = answered_as o.answer s o ws
 
 -- the answer 0
-abbrev pub isDone : Answer → Bool
-isDone (Done value) = true
-isDone (Refused why) = false
+abbrev pub is_done : Answer → Bool
+is_done (Done value) = true
+is_done (Refused why) = false
 
 -- 2 for the store's length; 13 for the values' length, or an image that does not serve; then what the call comes to
-unfoldable pub checkedBy : Bool → Slices → Result → Told
-checkedBy serves s r =
+unfoldable pub checked_by : Bool → Slices → Result → Told
+checked_by serves s r =
     cond (eqb (length s.store) 65536)
-    (cond (eqb (length s.values) 88 && serves) (toldBy s r.outcome r.words) (refusedBy 13 s))
-    (refusedBy 2 s)
+    (cond (eqb (length s.values) 88 && serves) (told_by s r.outcome r.words) (refused_by 13 s))
+    (refused_by 2 s)
 
 -- any call but BT: the image must read
 unfoldable pub called : Slices → ℕ → Call → Told
-called s d c = checkedBy (reading s.image).readable s (step (world (reading s.image).state (words.get s.store)) d c)
+called s d c = checked_by (reading s.image).readable s (step (world (reading s.image).state (words.get s.store)) d c)
 
 -- BT: the image must have the length
 unfoldable pub booted : Slices → ℕ → List ℕ → Told
-booted s d plan = checkedBy (eqb (length s.image) stateSize) s (boot (words.get s.store) d plan)
+booted s d plan = checked_by (eqb (length s.image) state_size) s (boot (words.get s.store) d plan)

@@ -11,41 +11,41 @@ use Rattle.calls.specs.declared.DomainCall.TheVariants.{Insert, Remove, Get, Loc
 use Rattle.byte_calls.specs.declared.Changed.{Changed}
 
 -- no word; the state or not
-abbrev pub onlyState : Bool → Changed
-onlyState b = record { state = b; from = 0; to = 0 }
+abbrev pub only_state : Bool → Changed
+only_state b = record { state = b; from = 0; to = 0 }
 
 -- WR: its word
-abbrev pub accessRun : Access → Changed
-accessRun (Read a) = onlyState false
-accessRun (Write a x) = cond (leb 8192 a) (onlyState false) (record { state = false; from = a; to = a + 1 })
-accessRun (Execute a) = onlyState false
-accessRun (Lookup a r) = onlyState false
+abbrev pub access_run : Access → Changed
+access_run (Read a) = only_state false
+access_run (Write a x) = cond (leb 8192 a) (only_state false) (record { state = false; from = a; to = a + 1 })
+access_run (Execute a) = only_state false
+access_run (Lookup a r) = only_state false
 
 -- the first word of a page, and the end of a run of pages, both within the store
-abbrev pub pageStart : ℕ → ℕ
-pageStart p = cond (leb 128 p) 8192 (64 * p)
+abbrev pub page_start : ℕ → ℕ
+page_start p = cond (leb 128 p) 8192 (64 * p)
 
-abbrev pub pageEnd : ℕ → ℕ → ℕ
-pageEnd p n = cond (leb 128 p) 8192 (cond (leb 128 n) 8192 (pageStart (p + n)))
+abbrev pub page_end : ℕ → ℕ → ℕ
+page_end p n = cond (leb 128 p) 8192 (cond (leb 128 n) 8192 (page_start (p + n)))
 
 -- CR: the words of its run
-abbrev pub objectRun : ObjectCall → Changed
-objectRun (Create p n k a) = record { state = true; from = pageStart p; to = pageEnd p n }
-objectRun (Delete b) = onlyState true
-objectRun (AddPassword b k m) = onlyState true
-objectRun (DropPassword b k) = onlyState true
-objectRun (Register b k l es) = onlyState true
+abbrev pub object_run : ObjectCall → Changed
+object_run (Create p n k a) = record { state = true; from = page_start p; to = page_end p n }
+object_run (Delete b) = only_state true
+object_run (AddPassword b k m) = only_state true
+object_run (DropPassword b k) = only_state true
+object_run (Register b k l es) = only_state true
 
 -- GT leaves the state
-abbrev pub domainRun : DomainCall → Changed
-domainRun (Insert i l) = onlyState true
-domainRun (Remove i) = onlyState true
-domainRun Get = onlyState false
-domainRun (Lock i) = onlyState true
-domainRun (PdxCall a ch) = onlyState true
-domainRun PdxReturn = onlyState true
+abbrev pub domain_run : DomainCall → Changed
+domain_run (Insert i l) = only_state true
+domain_run (Remove i) = only_state true
+domain_run Get = only_state false
+domain_run (Lock i) = only_state true
+domain_run (PdxCall a ch) = only_state true
+domain_run PdxReturn = only_state true
 
-abbrev pub changedBy : Call → Changed
-changedBy (OnStore c) = accessRun c
-changedBy (OnObject c) = objectRun c
-changedBy (OnDomain c) = domainRun c
+abbrev pub changed_by : Call → Changed
+changed_by (OnStore c) = access_run c
+changed_by (OnObject c) = object_run c
+changed_by (OnDomain c) = domain_run c

@@ -1,13 +1,13 @@
 // What a done call can have changed.
 ghost use Rattle.std.specs.Prelude.{◌≡◌};
-ghost use Rattle.byte_calls.specs.Changed.{onlyState, accessRun, pageStart, pageEnd, objectRun, domainRun, changedBy};
+ghost use Rattle.byte_calls.specs.Changed.{only_state, access_run, page_start, page_end, object_run, domain_run, changed_by};
 
 use crate::Changed;
 use calls::{Access, Call, DomainCall, ObjectCall};
 
 // No word; the state or not.
 fn only_state(state: bool) -> Changed
-    ensures { result ≡ onlyState state }
+    ensures { result ≡ only_state state }
 {
     Changed {
         state: state,
@@ -18,7 +18,7 @@ fn only_state(state: bool) -> Changed
 
 // WR changes its word.
 fn access_run(c: Access) -> Changed
-    ensures { result ≡ accessRun c }
+    ensures { result ≡ access_run c }
 {
     match c {
         Access::Read { address } => return only_state(false),
@@ -39,7 +39,7 @@ fn access_run(c: Access) -> Changed
 
 // The first word of a page; behind the last page, the end of the store.
 fn page_start(page: u64) -> usize
-    ensures { result ≡ pageStart page }
+    ensures { result ≡ page_start page }
 {
     if 128 <= page {
         return 8192;
@@ -49,7 +49,7 @@ fn page_start(page: u64) -> usize
 
 // The end of a run of pages, or of the store.
 fn page_end(page: u64, pages: u64) -> usize
-    ensures { result ≡ pageEnd page pages }
+    ensures { result ≡ page_end page pages }
 {
     if 128 <= page {
         return 8192;
@@ -62,7 +62,7 @@ fn page_end(page: u64, pages: u64) -> usize
 
 // CR zeroes the words of its run.
 fn object_run(c: ObjectCall) -> Changed
-    ensures { result ≡ objectRun c }
+    ensures { result ≡ object_run c }
 {
     match c {
         ObjectCall::Create {
@@ -93,7 +93,7 @@ fn object_run(c: ObjectCall) -> Changed
 
 // GT changes nothing.
 fn domain_run(c: DomainCall) -> Changed
-    ensures { result ≡ domainRun c }
+    ensures { result ≡ domain_run c }
 {
     match c {
         DomainCall::Insert { slot, list } => return only_state(true),
@@ -107,7 +107,7 @@ fn domain_run(c: DomainCall) -> Changed
 
 // What a done call can have changed.
 pub fn changed_by(call: Call) -> Changed
-    ensures { result ≡ changedBy call }
+    ensures { result ≡ changed_by call }
 {
     match call {
         Call::OnStore(c) => return access_run(c),

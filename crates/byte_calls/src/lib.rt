@@ -1,7 +1,7 @@
 // Any call on the three slices: the image of the state, the store's bytes, and the values that come back.
 ghost use Rattle.std.specs.Prelude.{◌≡◌, cond};
 ghost use Rattle.image.specs.Image.{written};
-ghost use Rattle.byte_calls.specs.Called.{slices, told, isDone, toldBy, called, booted};
+ghost use Rattle.byte_calls.specs.Called.{slices, told, is_done, told_by, called, booted};
 ghost use Rattle.byte_calls.specs.Laws.Concluded.{Ready};
 
 use crate::changes::changed_by;
@@ -28,7 +28,7 @@ pub struct Changed {
 
 // Whether the call is done.
 fn is_done(a: Answer) -> bool
-    ensures { result ≡ isDone a }
+    ensures { result ≡ is_done a }
 {
     match a {
         Answer::Done(value) => return true,
@@ -56,7 +56,7 @@ fn conclude(
     outcome: Outcome,
 ) -> u64
     requires { Ready (slices image.old store.old values.old) words.now changed outcome }
-    ensures { told result (slices image.new store.new values.new) ≡ toldBy (slices image.old store.old values.old) outcome words.now }
+    ensures { told result (slices image.new store.new values.new) ≡ told_by (slices image.old store.old values.old) outcome words.now }
 {
     let answer = outcome.answer;
     let s = outcome.state;

@@ -1,6 +1,6 @@
 -- When a call comes to be judged and has the authority that it needs: document 01, "In checking order", checks 2 to 7.
 use Rattle.std.specs.Prelude.{ℕ, ◌<◌, ◌≡◌, true, ◌↔◌, length}
-use Rattle.state.specs.Places.{domainAt}
+use Rattle.state.specs.Places.{domain_at}
 use Rattle.soundness.specs.Sound.{sound}
 use Rattle.judge.specs.Granting.{Grantable}
 use Rattle.judge.specs.declared.Target.{Target}
@@ -17,18 +17,18 @@ answered w d c = number_of (step w d c).outcome.answer
 -- checks 2 to 5 hold, so that the locks are looked at
 pub record Comes (w : World) (d : ℕ) (c : Call) : Type 0 where
   pub long : length w.words ≡ 8192
-  pub sound-state : sound w.state ≡ true
+  pub sound_state : sound w.state ≡ true
   pub domain : d < 4
   pub range : in_range c ≡ true
 
 -- checks 2 to 6 hold, so that the call is judged
 pub record Reaches (w : World) (d : ℕ) (c : Call) : Type 0 where
   pub comes : Comes w d c
-  pub unlocks : unlocked c (domainAt w.state d).active ≡ true
+  pub unlocks : unlocked c (domain_at w.state d).active ≡ true
 
 -- a capability with all the rights stands in the domain's live lists, and no denying one anywhere in them
 abbrev pub GrantableTo : World → ℕ → Target → ℕ → Type 0
-GrantableTo w d target r = Grantable w.state.table w.words (domainAt w.state d).active target r
+GrantableTo w d target r = Grantable w.state.table w.words (domain_at w.state d).active target r
 
 -- so of what a call wants
 abbrev pub WantGrantable : World → ℕ → Want → Type 0

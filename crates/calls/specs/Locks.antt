@@ -7,31 +7,31 @@ use Rattle.calls.specs.declared.ObjectCall.TheVariants.{Create, Delete, AddPassw
 use Rattle.calls.specs.declared.DomainCall.TheVariants.{Insert, Remove, Get, Lock, PdxCall, PdxReturn}
 
 -- the whole lock stops AP, RG, IN, RM and CA
-abbrev pub wholeStops : Call → Bool
-wholeStops (OnStore c) = false
-wholeStops (OnObject (Create p n k a)) = false
-wholeStops (OnObject (Delete b)) = false
-wholeStops (OnObject (AddPassword b k m)) = true
-wholeStops (OnObject (DropPassword b k)) = false
-wholeStops (OnObject (Register b k l es)) = true
-wholeStops (OnDomain (Insert i l)) = true
-wholeStops (OnDomain (Remove i)) = true
-wholeStops (OnDomain Get) = false
-wholeStops (OnDomain (Lock i)) = false
-wholeStops (OnDomain (PdxCall a ch)) = true
-wholeStops (OnDomain PdxReturn) = false
+abbrev pub whole_stops : Call → Bool
+whole_stops (OnStore c) = false
+whole_stops (OnObject (Create p n k a)) = false
+whole_stops (OnObject (Delete b)) = false
+whole_stops (OnObject (AddPassword b k m)) = true
+whole_stops (OnObject (DropPassword b k)) = false
+whole_stops (OnObject (Register b k l es)) = true
+whole_stops (OnDomain (Insert i l)) = true
+whole_stops (OnDomain (Remove i)) = true
+whole_stops (OnDomain Get) = false
+whole_stops (OnDomain (Lock i)) = false
+whole_stops (OnDomain (PdxCall a ch)) = true
+whole_stops (OnDomain PdxReturn) = false
 
 -- the lock of the first n slots stops IN and RM at one of them
-abbrev pub slotsStop : ℕ → Call → Bool
-slotsStop n (OnStore c) = false
-slotsStop n (OnObject c) = false
-slotsStop n (OnDomain (Insert i l)) = ltb i n
-slotsStop n (OnDomain (Remove i)) = ltb i n
-slotsStop n (OnDomain Get) = false
-slotsStop n (OnDomain (Lock i)) = false
-slotsStop n (OnDomain (PdxCall a ch)) = false
-slotsStop n (OnDomain PdxReturn) = false
+abbrev pub slots_stop : ℕ → Call → Bool
+slots_stop n (OnStore c) = false
+slots_stop n (OnObject c) = false
+slots_stop n (OnDomain (Insert i l)) = ltb i n
+slots_stop n (OnDomain (Remove i)) = ltb i n
+slots_stop n (OnDomain Get) = false
+slots_stop n (OnDomain (Lock i)) = false
+slots_stop n (OnDomain (PdxCall a ch)) = false
+slots_stop n (OnDomain PdxReturn) = false
 
 -- the locks of a frame stop a call
-abbrev pub locksStop : Frame → Call → Bool
-locksStop f c = slotsStop f.locked c || (wholeStops c && f.whole)
+abbrev pub locks_stop : Frame → Call → Bool
+locks_stop f c = slots_stop f.locked c || (whole_stops c && f.whole)

@@ -4,18 +4,18 @@ use Rattle.std.proofs.Math.Option.{Option, none}
 use Rattle.state.specs.declared.Object.{Object}
 use Rattle.state.specs.declared.Frame.{Frame}
 use Rattle.judge.specs.declared.Target.TheVariants.{Address, Base}
-use Rattle.calls.specs.Answers.{noFields}
-use Rattle.calls.specs.View.{Want, nothing, rights, Charge, View, Check, objectOf}
+use Rattle.calls.specs.Answers.{no_fields}
+use Rattle.calls.specs.View.{Want, nothing, rights, Charge, View, Check, object_of}
 use Rattle.calls.specs.Changes.{Change, active}
 use Rattle.calls.specs.declared.Presented.{Presented}
 use Rattle.calls.specs.declared.Fields.{Fields}
 
 -- what a done call changes beside its caller's own estate and locks: nothing, a word, the object with a base, the caller's slots
 pub data Touch : Type 0 where
-  touchesNothing : Touch
-  touchesWord : ℕ → Touch
-  touchesObject : ℕ → Touch
-  touchesSlots : Touch
+  touches_nothing : Touch
+  touches_word : ℕ → Touch
+  touches_object : ℕ → Touch
+  touches_slots : Touch
 
 -- what a call says of itself, by the numbers of the checks
 pub record Rule : Type 0 where
@@ -57,37 +57,37 @@ says range unlocked want presents charges rest value fields changes touch =
 abbrev pub always : Frame → Bool
 always f = true
 
-abbrev pub unlessWhole : Frame → Bool
-unlessWhole f = not f.whole
+abbrev pub unless_whole : Frame → Bool
+unless_whole f = not f.whole
 
 -- it has no value; it reports no fields
 abbrev pub valueless : View → ℕ
 valueless v = 0
 
 abbrev pub untold : View → Fields
-untold v = noFields
+untold v = no_fields
 
 -- an address of the store, and a page
-abbrev pub inStore : ℕ → Bool
-inStore a = ltb a 8192
+abbrev pub in_store : ℕ → Bool
+in_store a = ltb a 8192
 
-abbrev pub isPage : ℕ → Bool
-isPage p = ltb p 128
+abbrev pub is_page : ℕ → Bool
+is_page p = ltb p 128
 
 -- one of the four accounts
-abbrev pub isAccount : ℕ → Bool
-isAccount a = ltb a 4
+abbrev pub is_account : ℕ → Bool
+is_account a = ltb a 4
 
 -- an access: rights at an address
 abbrev pub access : Bool → ℕ → ℕ → (View → ℕ) → List Change → Touch → Rule
 access range a r value changes touch = says range always (rights (Address a) r) none none (λ d v. []) value untold (λ d v. changes) touch
 
 -- a call on the object with a base; where no object has that base, nothing is granted
-abbrev pub onObject : Bool → (Frame → Bool) → ℕ → ℕ → Option Presented → (Object → List Check) → (View → List Change) → Rule
-onObject range unlocked b r presents rest changes =
-    says range unlocked (rights (Base b) r) presents none (λ d v. rest (objectOf v.found)) valueless untold (λ d. changes) (touchesObject b)
+abbrev pub on_object : Bool → (Frame → Bool) → ℕ → ℕ → Option Presented → (Object → List Check) → (View → List Change) → Rule
+on_object range unlocked b r presents rest changes =
+    says range unlocked (rights (Base b) r) presents none (λ d v. rest (object_of v.found)) valueless untold (λ d. changes) (touches_object b)
 
 -- a call on the slots and locks of the caller's frame
-abbrev pub onFrame : Bool → (Frame → Bool) → Option Presented → (Frame → List Check) → (Frame → Frame) → Touch → Rule
-onFrame range unlocked presents rest after touch =
+abbrev pub on_frame : Bool → (Frame → Bool) → Option Presented → (Frame → List Check) → (Frame → Frame) → Touch → Rule
+on_frame range unlocked presents rest after touch =
     says range unlocked nothing presents none (λ d v. rest v.domain.active) valueless untold (λ d v. active d v (after v.domain.active)) touch

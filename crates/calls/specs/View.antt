@@ -1,8 +1,8 @@
 -- The view of a call: all that it reads, with the search of document 01, "How an access is judged". And what a check is.
 use Rattle.std.specs.Prelude.{ℕ, ◌+◌, ◌/◌, Bool, true, false, not, cond, ◌||◌, List, [], ◌∷◌, leb, get_or}
 use Rattle.std.proofs.Math.Option.{Option, none, some}
-use Rattle.state.specs.Places.{noEstate, freeObject, estateOf, limitAt}
-use Rattle.state.specs.Pages.{pagesOf, mayCharge}
+use Rattle.state.specs.Places.{no_estate, free_object, estate_of, limit_at}
+use Rattle.state.specs.Pages.{pages_of, may_charge}
 use Rattle.state.specs.declared.Object.{Object}
 use Rattle.state.specs.declared.Estate.{Estate}
 use Rattle.state.specs.declared.Table.{Table}
@@ -33,9 +33,9 @@ pub data Check : Type 0 where
   check : Refusal → Bool → Check
 
 -- the first check that fails
-abbrev pub firstFailing : List Check → Option Refusal
-firstFailing [] = none
-firstFailing (check r holds ∷ cs) = cond holds (firstFailing cs) (some r)
+abbrev pub first_failing : List Check → Option Refusal
+first_failing [] = none
+first_failing (check r holds ∷ cs) = cond holds (first_failing cs) (some r)
 
 -- what a call wants: rights on a target, or nothing
 pub data Want : Type 0 where
@@ -63,20 +63,20 @@ abbrev pub word_at : List ℕ → Target → ℕ
 word_at words (Address a) = get_or words a 0
 word_at words (Base b) = 0
 
-abbrev pub foundBy : World → Target → Judgement → Option Found
-foundBy w target (Granted pair) =
+abbrev pub found_by : World → Target → Judgement → Option Found
+found_by w target (Granted pair) =
     some
     (record {
       pair = pair;
       object = targeted w.state.table target;
-      estate = estateOf w.state.table (page_of target);
+      estate = estate_of w.state.table (page_of target);
       word = word_at w.words target;
     })
-foundBy w target Refused = none
+found_by w target Refused = none
 
 abbrev pub search : Judging → World → Frame → Want → Option Found
 search judging w f nothing = none
-search judging w f (rights target r) = foundBy w target (judging w.state.table w.words f target r)
+search judging w f (rights target r) = found_by w target (judging w.state.table w.words f target r)
 
 -- whether a presented capability passes rule 1
 abbrev pub passes : Table → Option Presented → Bool
@@ -86,12 +86,12 @@ passes t (some l) = live t (record { page = l.page; password = l.password })
 -- whether the account is in the domain's set
 abbrev pub permitted : Accounts → ℕ → Option Charge → Bool
 permitted x d none = true
-permitted x d (some c) = mayCharge x d c.account
+permitted x d (some c) = may_charge x d c.account
 
 -- whether the account's pages, with those charged, are at most its limit; both are read only where the domain may charge the account
-abbrev pub withinLimit : Table → Accounts → ℕ → Option Charge → Bool
-withinLimit t x d none = true
-withinLimit t x d (some c) = not (mayCharge x d c.account) || leb (pagesOf t c.account + c.pages) (limitAt x c.account)
+abbrev pub within_limit : Table → Accounts → ℕ → Option Charge → Bool
+within_limit t x d none = true
+within_limit t x d (some c) = not (may_charge x d c.account) || leb (pages_of t c.account + c.pages) (limit_at x c.account)
 
 -- all that a call of a domain reads: its domain and estate, what its search gives, whether what it presents is live, and whether what it
 -- charges is permitted and within the limit
@@ -108,13 +108,13 @@ abbrev pub is_some : Option Found → Bool
 is_some none = false
 is_some (some x) = true
 
-abbrev pub objectOf : Option Found → Object
-objectOf none = freeObject
-objectOf (some x) = x.object
+abbrev pub object_of : Option Found → Object
+object_of none = free_object
+object_of (some x) = x.object
 
-abbrev pub estateFound : Option Found → Estate
-estateFound none = noEstate
-estateFound (some x) = x.estate
+abbrev pub estate_found : Option Found → Estate
+estate_found none = no_estate
+estate_found (some x) = x.estate
 
 abbrev pub word_of : Option Found → ℕ
 word_of none = 0

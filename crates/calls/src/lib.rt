@@ -1,7 +1,7 @@
 // The calls of the monitor.
 ghost use Rattle.std.specs.Prelude.{◌≡◌};
 ghost use Rattle.calls.specs.Step.{world, admitted};
-ghost use Rattle.calls.specs.Parts.{callerOf};
+ghost use Rattle.calls.specs.Parts.{caller_of};
 
 use soundness::sound;
 use state::{Domain, Estate, State};
@@ -154,7 +154,7 @@ pub enum Caller {
 
 // Checks 2 and 4.
 pub fn caller_of(words: usize, d: u64) -> Caller
-    ensures { result ≡ callerOf words d }
+    ensures { result ≡ caller_of words d }
 {
     if words != STORE_WORDS {
         return Caller::Refused(Refusal::StoreLength);

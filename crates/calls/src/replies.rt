@@ -1,10 +1,10 @@
 // What a call hands back, and how it is put into the state.
 ghost use Rattle.std.specs.Prelude.{◌≡◌};
-ghost use Rattle.state.specs.Places.{estateOf};
-ghost use Rattle.state.specs.Lookup.{placeBased};
-ghost use Rattle.calls.specs.Answers.{refusalNumber, noFields};
-ghost use Rattle.calls.specs.Step.{answeredWith};
-ghost use Rattle.calls.specs.Parts.{unaltered, altered, replaced, becoming, going, moved, stays, withAltered, withMoved};
+ghost use Rattle.state.specs.Places.{estate_of};
+ghost use Rattle.state.specs.Lookup.{place_based};
+ghost use Rattle.calls.specs.Answers.{refusal_number, no_fields};
+ghost use Rattle.calls.specs.Step.{answered_with};
+ghost use Rattle.calls.specs.Parts.{unaltered, altered, replaced, becoming, going, moved, stays, with_altered, with_moved};
 
 use crate::{Altered, Answer, Fields, Moved, Outcome, Refusal};
 use state::estates::place_based;
@@ -14,7 +14,7 @@ use updates::estates::{remove_object, with_domain, with_estate, with_object};
 
 // The number of a refusal.
 pub fn refusal_number(why: Refusal) -> u64
-    ensures { result ≡ refusalNumber why }
+    ensures { result ≡ refusal_number why }
 {
     match why {
         Refusal::StoreLength => return 2,
@@ -35,7 +35,7 @@ pub fn refusal_number(why: Refusal) -> u64
 
 // No fields.
 pub fn no_fields() -> Fields
-    ensures { result ≡ noFields }
+    ensures { result ≡ no_fields }
 {
     Fields {
         count: 0,
@@ -45,7 +45,7 @@ pub fn no_fields() -> Fields
 
 // An answer without fields, with the state after it.
 pub fn answered(s: State, a: Answer) -> Outcome
-    ensures { result ≡ answeredWith s a }
+    ensures { result ≡ answered_with s a }
 {
     Outcome {
         answer: a,
@@ -56,7 +56,7 @@ pub fn answered(s: State, a: Answer) -> Outcome
 
 // The outcome of a call on objects: its estate put into the state.
 pub fn put_estate(s: State, r: Altered) -> Outcome
-    ensures { result ≡ withAltered s r }
+    ensures { result ≡ with_altered s r }
 {
     let a = r.answer;
     let e = r.estate;
@@ -65,7 +65,7 @@ pub fn put_estate(s: State, r: Altered) -> Outcome
 
 // The outcome of a call on domain d: the domain put into the state.
 pub fn put_domain(s: State, d: usize, r: Moved) -> Outcome
-    ensures { result ≡ withMoved s d r }
+    ensures { result ≡ with_moved s d r }
 {
     let a = r.answer;
     let f = r.fields;
@@ -100,7 +100,7 @@ fn replaced(e: Estate, at: usize, o: Object, stands: bool) -> Estate
 
 // A done call on objects, by which the object with the base is o now, or is gone.
 fn replaces(t: Table, base: u64, o: Object, stands: bool) -> Altered
-    ensures { result ≡ altered t base (replaced (estateOf t base) (placeBased (estateOf t base) base) o stands) }
+    ensures { result ≡ altered t base (replaced (estate_of t base) (place_based (estate_of t base) base) o stands) }
 {
     if 128 <= base {
         return unaltered(t, Refusal::OutOfRange);

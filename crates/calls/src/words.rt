@@ -1,6 +1,6 @@
 // Words of the store that become 0.
 ghost use Rattle.std.specs.Prelude.{◌≡◌, ◌+◌, ◌≤◌, length};
-ghost use Rattle.calls.specs.Changes.{zeroed, zeroedWithin};
+ghost use Rattle.calls.specs.Changes.{zeroed, zeroed_within};
 
 // n words from `start` on become 0.
 fn zero_run(store: &mut [u64], start: usize, n: usize)
@@ -16,7 +16,7 @@ fn zero_run(store: &mut [u64], start: usize, n: usize)
 
 // The same where they lie in the store; else nothing changes.
 pub fn zero_words(store: &mut [u64], start: usize, n: usize)
-    ensures { store.new ≡ zeroedWithin start n store.old }
+    ensures { store.new ≡ zeroed_within start n store.old }
 {
     let length = store.len();
     if length < start {

@@ -2,17 +2,17 @@
 use Rattle.std.specs.Prelude.{◌≡◌, refl, List, [], ◌∷◌, replicate}
 use Rattle.std.proofs.Common.{◌∙◌}
 use Rattle.judge.specs.Search.{searched}
-use Rattle.calls.specs.Step.{Result, worldOf}
+use Rattle.calls.specs.Step.{Result, world_of}
 use Rattle.calls.specs.Boot.{boot}
-use Rattle.calls.specs.Laws.Booted.{boot-sound}
-use Rattle.cases.specs.Runs.{Exchange, by, answers, expected, answersBy, answers-are, by-search}
+use Rattle.calls.specs.Laws.Booted.{boot_sound}
+use Rattle.cases.specs.Runs.{Exchange, by, answers, expected, answers_by, answers_are, by_search}
 use Rattle.calls.specs.declared.Call.TheVariants.{OnStore, OnObject}
 use Rattle.calls.specs.declared.Access.TheVariants.{Write}
 use Rattle.calls.specs.declared.ObjectCall.TheVariants.{Create, Delete}
 
 -- a boot with limits of 4 and 2 pages on accounts 0 and 1; domain 0 may charge both, and domain 1 account 1
-abbrev pub scarceBoot : Result
-scarceBoot =
+abbrev pub scarce_boot : Result
+scarce_boot =
     boot (replicate 8192 0) 0
     (11 ∷ 12 ∷ 13 ∷ 14 ∷ 4 ∷ 2 ∷ 128 ∷ 128 ∷ 0 ∷ 3 ∷ 1 ∷ 2 ∷ 2 ∷ 4 ∷ 3 ∷ 8 ∷ [])
 
@@ -38,12 +38,12 @@ charges =
     ∷ by 1 (OnObject (Create 33 1 31 1)) (0 ∷ 0 ∷ [])
     ∷ []
 
-computed : answersBy searched (worldOf scarceBoot) charges ≡ expected charges
-unfolding answersBy
+computed : answers_by searched (world_of scarce_boot) charges ≡ expected charges
+unfolding answers_by
 computed = refl
 
 -- every call is answered so
-pub charged : answers (worldOf scarceBoot) charges ≡ expected charges
+pub charged : answers (world_of scarce_boot) charges ≡ expected charges
 charged =
-    answers-are (worldOf scarceBoot) (boot-sound _ _ _) charges
-    ∙ by-search (λ j. answersBy j (worldOf scarceBoot) charges ≡ expected charges) computed
+    answers_are (world_of scarce_boot) (boot_sound _ _ _) charges
+    ∙ by_search (λ j. answers_by j (world_of scarce_boot) charges ≡ expected charges) computed

@@ -2,16 +2,16 @@
 -- domain 0 holds two pairs, at words 0 and 2, and the second owns page 1. Ends.antt has a denying pair behind the end of a list.
 use Rattle.std.specs.Prelude.{◌≡◌, refl, List, [], ◌∷◌}
 use Rattle.judge.specs.Search.{searched}
-use Rattle.cases.specs.Runs.{Exchange, by, answersBy}
-use Rattle.cases.specs.Marked.{answersAfter, expectedAfter, computedAfter, by-computing}
+use Rattle.cases.specs.Runs.{Exchange, by, answers_by}
+use Rattle.cases.specs.Marked.{answers_after, expected_after, computed_after, by_computing}
 use Rattle.cases.specs.Ends.{writes}
 use Rattle.calls.specs.declared.Call.TheVariants.{OnStore, OnObject, OnDomain}
 use Rattle.calls.specs.declared.Access.TheVariants.{Write, Lookup}
 use Rattle.calls.specs.declared.ObjectCall.TheVariants.{Create, AddPassword, DropPassword}
 use Rattle.calls.specs.declared.DomainCall.TheVariants.{Insert, Remove}
 
-abbrev pub denialRuns : List (List Exchange)
-denialRuns =
+abbrev pub denial_runs : List (List Exchange)
+denial_runs =
     -- the only pair of the list in page 2 denies W on page 1: it counts while the list stands in slot 1, behind the list that grants, and no
     -- longer once the slot is removed, or dead, its password being dropped
     (by 0 (OnObject (Create 2 1 23 0)) (0 ∷ 0 ∷ [])
@@ -47,9 +47,9 @@ denialRuns =
     ∷ [])
     ∷ []
 
-computed : computedAfter searched denialRuns ≡ expectedAfter denialRuns
-unfolding answersBy
+computed : computed_after searched denial_runs ≡ expected_after denial_runs
+unfolding answers_by
 computed = refl
 
-pub denials : answersAfter denialRuns ≡ expectedAfter denialRuns
-denials = by-computing denialRuns computed
+pub denials : answers_after denial_runs ≡ expected_after denial_runs
+denials = by_computing denial_runs computed

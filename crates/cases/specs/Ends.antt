@@ -2,8 +2,8 @@
 -- home of domain 0 holds two pairs, at words 0 and 2; the words from 4 on are zero.
 use Rattle.std.specs.Prelude.{ℕ, ◌≡◌, refl, List, [], ◌∷◌}
 use Rattle.judge.specs.Search.{searched}
-use Rattle.cases.specs.Runs.{Exchange, by, answersBy}
-use Rattle.cases.specs.Marked.{answersAfter, expectedAfter, computedAfter, by-computing}
+use Rattle.cases.specs.Runs.{Exchange, by, answers_by}
+use Rattle.cases.specs.Marked.{answers_after, expected_after, computed_after, by_computing}
 use Rattle.calls.specs.declared.Call.TheVariants.{OnStore, OnObject, OnDomain}
 use Rattle.calls.specs.declared.Access.TheVariants.{Read, Write, Lookup}
 use Rattle.calls.specs.declared.ObjectCall.TheVariants.{Create, AddPassword}
@@ -13,8 +13,8 @@ use Rattle.calls.specs.declared.DomainCall.TheVariants.{Insert}
 abbrev pub writes : ℕ → ℕ → Exchange
 writes a x = by 0 (OnStore (Write a x)) (0 ∷ 0 ∷ [])
 
-abbrev pub endRuns : List (List Exchange)
-endRuns =
+abbrev pub end_runs : List (List Exchange)
+end_runs =
     -- the pair for page 2 stands behind a zero pair, and grants nothing until one word of that is filled, whichever
     (by 0 (OnObject (Create 2 1 23 0)) (0 ∷ 0 ∷ [])
     ∷ writes 6 512
@@ -55,9 +55,9 @@ endRuns =
     ∷ [])
     ∷ []
 
-computed : computedAfter searched endRuns ≡ expectedAfter endRuns
-unfolding answersBy
+computed : computed_after searched end_runs ≡ expected_after end_runs
+unfolding answers_by
 computed = refl
 
-pub ends : answersAfter endRuns ≡ expectedAfter endRuns
-ends = by-computing endRuns computed
+pub ends : answers_after end_runs ≡ expected_after end_runs
+ends = by_computing end_runs computed

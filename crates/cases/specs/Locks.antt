@@ -1,16 +1,16 @@
 -- Locks, as computed runs behind the listing of document 01; and that locking again changes nothing.
 use Rattle.std.specs.Prelude.{ℕ, ◌<◌, ◌≡◌, refl, true, false, List, [], ◌∷◌, ◌++◌, eqb}
 use Rattle.std.proofs.Common.{ap, sym, arith}
-use Rattle.state.specs.Update.{lockSlot}
+use Rattle.state.specs.Update.{lock_slot}
 use Rattle.state.specs.declared.Frame.{Frame}
 use Rattle.judge.specs.Search.{searched}
-use Rattle.cases.specs.Runs.{Exchange, by, answersBy}
-use Rattle.cases.specs.Marked.{answersAfter, expectedAfter, computedAfter, by-computing, registered}
+use Rattle.cases.specs.Runs.{Exchange, by, answers_by}
+use Rattle.cases.specs.Marked.{answers_after, expected_after, computed_after, by_computing, registered}
 use Rattle.calls.specs.declared.Call.TheVariants.{OnDomain}
 use Rattle.calls.specs.declared.DomainCall.TheVariants.{Insert, Remove, Get, Lock, PdxCall, PdxReturn}
 
-abbrev pub lockRuns : List (List Exchange)
-lockRuns =
+abbrev pub lock_runs : List (List Exchange)
+lock_runs =
     -- the whole lock stops RM and CA, and neither RT nor LO, by which the locked count still rises
     (by 0 (OnDomain (Lock 255)) (0 ∷ 0 ∷ [])
     ∷ by 0 (OnDomain (Remove 0)) (6 ∷ 0 ∷ [])
@@ -31,18 +31,18 @@ lockRuns =
     ∷ [])
     ∷ []
 
-computed : computedAfter searched lockRuns ≡ expectedAfter lockRuns
-unfolding answersBy
+computed : computed_after searched lock_runs ≡ expected_after lock_runs
+unfolding answers_by
 computed = refl
 
-pub locks : answersAfter lockRuns ≡ expectedAfter lockRuns
-locks = by-computing lockRuns computed
+pub locks : answers_after lock_runs ≡ expected_after lock_runs
+locks = by_computing lock_runs computed
 
 -- LO of a slot that is locked changes nothing, nor does LO 255 under the whole lock
-pub locked-already : (f : Frame) (i : ℕ) → i < f.locked → eqb i 255 ≡ false → lockSlot f i ≡ f
-unfolding lockSlot
-locked-already f i l e = rw e (ap (λ n. record { slots = f.slots; count = f.count; locked = n; whole = f.whole }) (omega arith))
+pub locked_already : (f : Frame) (i : ℕ) → i < f.locked → eqb i 255 ≡ false → lock_slot f i ≡ f
+unfolding lock_slot
+locked_already f i l e = rw e (ap (λ n. record { slots = f.slots; count = f.count; locked = n; whole = f.whole }) (omega arith))
 
-pub whole-already : (f : Frame) → f.whole ≡ true → lockSlot f 255 ≡ f
-unfolding lockSlot
-whole-already f e = ap (λ b. record { slots = f.slots; count = f.count; locked = f.locked; whole = b }) (sym e)
+pub whole_already : (f : Frame) → f.whole ≡ true → lock_slot f 255 ≡ f
+unfolding lock_slot
+whole_already f e = ap (λ b. record { slots = f.slots; count = f.count; locked = f.locked; whole = b }) (sym e)

@@ -4,18 +4,18 @@ use Rattle.std.proofs.Common.{◌∙◌}
 use Rattle.judge.specs.Search.{searched}
 use Rattle.judge.specs.Judged.{judged}
 use Rattle.calls.specs.View.{Judging}
-use Rattle.calls.specs.Step.{Result, worldOf, answer_of}
+use Rattle.calls.specs.Step.{Result, world_of, answer_of}
 use Rattle.calls.specs.Boot.{boot}
-use Rattle.calls.specs.Laws.Booted.{boot-sound}
-use Rattle.cases.specs.Runs.{ample, Exchange, by, answers, expected, answersBy, answers-are, map_same, by-search}
+use Rattle.calls.specs.Laws.Booted.{boot_sound}
+use Rattle.cases.specs.Runs.{ample, Exchange, by, answers, expected, answers_by, answers_are, map_same, by_search}
 use Rattle.calls.specs.declared.Call.TheVariants.{OnStore, OnObject, OnDomain}
 use Rattle.calls.specs.declared.Access.TheVariants.{Read, Write, Lookup}
 use Rattle.calls.specs.declared.ObjectCall.TheVariants.{Create, AddPassword, Register}
 use Rattle.calls.specs.declared.DomainCall.TheVariants.{Remove, Get, Lock, PdxCall, PdxReturn}
 
 -- the boot of the listing, on a store of zeros, with ample accounts
-abbrev pub listingBoot : Result
-listingBoot = boot (replicate 8192 0) 0 (ample (11 ∷ 12 ∷ 13 ∷ 14 ∷ []))
+abbrev pub listing_boot : Result
+listing_boot = boot (replicate 8192 0) 0 (ample (11 ∷ 12 ∷ 13 ∷ 14 ∷ []))
 
 -- the listing of "The call program" behind its boot
 abbrev pub listing : List Exchange
@@ -55,21 +55,21 @@ registered =
     ∷ []
 
 -- the answers of runs that each start after the whole listing, as they are and as they must be
-abbrev pub answersAfter : List (List Exchange) → List (List (List ℕ))
-answersAfter runs = map (λ (es : List Exchange). answers (worldOf listingBoot) (listing ++ es)) runs
+abbrev pub answers_after : List (List Exchange) → List (List (List ℕ))
+answers_after runs = map (λ (es : List Exchange). answers (world_of listing_boot) (listing ++ es)) runs
 
-abbrev pub expectedAfter : List (List Exchange) → List (List (List ℕ))
-expectedAfter runs = map (λ (es : List Exchange). expected (listing ++ es)) runs
+abbrev pub expected_after : List (List Exchange) → List (List (List ℕ))
+expected_after runs = map (λ (es : List Exchange). expected (listing ++ es)) runs
 
 -- they are computed by the search, and without check 3
-abbrev pub computedAfter : Judging → List (List Exchange) → List (List (List ℕ))
-computedAfter judging runs = map (λ (es : List Exchange). answersBy judging (worldOf listingBoot) (listing ++ es)) runs
+abbrev pub computed_after : Judging → List (List Exchange) → List (List (List ℕ))
+computed_after judging runs = map (λ (es : List Exchange). answers_by judging (world_of listing_boot) (listing ++ es)) runs
 
-answers-after : (runs : List (List Exchange)) → answersAfter runs ≡ computedAfter judged runs
-answers-after runs = map_same _ _ (λ es. answers-are (worldOf listingBoot) (boot-sound _ _ _) (listing ++ es)) runs
+answers_after_lem : (runs : List (List Exchange)) → answers_after runs ≡ computed_after judged runs
+answers_after_lem runs = map_same _ _ (λ es. answers_are (world_of listing_boot) (boot_sound _ _ _) (listing ++ es)) runs
 
-pub by-computing : (runs : List (List Exchange)) → computedAfter searched runs ≡ expectedAfter runs → answersAfter runs ≡ expectedAfter runs
-by-computing runs p = answers-after runs ∙ by-search (λ j. computedAfter j runs ≡ expectedAfter runs) p
+pub by_computing : (runs : List (List Exchange)) → computed_after searched runs ≡ expected_after runs → answers_after runs ≡ expected_after runs
+by_computing runs p = answers_after_lem runs ∙ by_search (λ j. computed_after j runs ≡ expected_after runs) p
 
 -- The cases; each starts after the whole listing. The first write with mode 130, whose denying pair stands behind the granting one, is 7
 -- by document 02, T-07; document 01 has 0. All others are as in document 01.
@@ -97,15 +97,15 @@ cases =
 
 -- the whole table: the boot's answer, and the answers of each run
 abbrev pub answered : List (List (List ℕ))
-answered = (answer_of listingBoot ∷ []) ∷ answersAfter cases
+answered = (answer_of listing_boot ∷ []) ∷ answers_after cases
 
-abbrev pub wantedAnswers : List (List (List ℕ))
-wantedAnswers = ((0 ∷ 0 ∷ []) ∷ []) ∷ expectedAfter cases
+abbrev pub wanted_answers : List (List (List ℕ))
+wanted_answers = ((0 ∷ 0 ∷ []) ∷ []) ∷ expected_after cases
 
-computed : (answer_of listingBoot ∷ []) ∷ computedAfter searched cases ≡ wantedAnswers
-unfolding answersBy
+computed : (answer_of listing_boot ∷ []) ∷ computed_after searched cases ≡ wanted_answers
+unfolding answers_by
 computed = refl
 
 -- every marked case is answered as the papers say
-pub marked : answered ≡ wantedAnswers
-marked = rw (answers-after cases) (by-search (λ j. (answer_of listingBoot ∷ []) ∷ computedAfter j cases ≡ wantedAnswers) computed)
+pub marked : answered ≡ wanted_answers
+marked = rw (answers_after_lem cases) (by_search (λ j. (answer_of listing_boot ∷ []) ∷ computed_after j cases ≡ wanted_answers) computed)

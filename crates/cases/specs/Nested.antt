@@ -3,17 +3,17 @@
 use Rattle.std.specs.Prelude.{ℕ, ◌≡◌, refl, Bool, true, false, ◌&&◌, List, [], ◌∷◌, ◌++◌, map, eqb, replicate}
 use Rattle.std.proofs.Common.{◌∙◌}
 use Rattle.bounded.specs.Fill.{tabulate}
-use Rattle.state.specs.Places.{slot_at, saved_at, domainAt}
+use Rattle.state.specs.Places.{slot_at, saved_at, domain_at}
 use Rattle.state.specs.declared.Domain.{Domain}
 use Rattle.state.specs.declared.Frame.{Frame}
 use Rattle.judge.specs.Search.{searched}
 use Rattle.judge.specs.Judged.{judged}
 use Rattle.calls.specs.View.{World, Judging}
 use Rattle.calls.specs.Changes.{flag}
-use Rattle.calls.specs.Step.{worldOf}
-use Rattle.calls.specs.Laws.Booted.{boot-sound}
-use Rattle.cases.specs.Runs.{Exchange, by, answers, expected, after, answersBy, afterBy, answers-are, after_is, map_same, by-search}
-use Rattle.cases.specs.Marked.{listingBoot, listing, registered}
+use Rattle.calls.specs.Step.{world_of}
+use Rattle.calls.specs.Laws.Booted.{boot_sound}
+use Rattle.cases.specs.Runs.{Exchange, by, answers, expected, after, answers_by, after_by, answers_are, after_is, map_same, by_search}
+use Rattle.cases.specs.Marked.{listing_boot, listing, registered}
 use Rattle.calls.specs.declared.Call.TheVariants.{OnStore, OnDomain}
 use Rattle.calls.specs.declared.Access.TheVariants.{Write}
 use Rattle.calls.specs.declared.DomainCall.TheVariants.{Lock, PdxCall, PdxReturn}
@@ -61,31 +61,31 @@ nested =
     ∷ []
 
 -- all the numbers of a protection domain: each frame's slot count, locked count, whole lock and slots, and how many are saved
-abbrev pub frameNumbers : Frame → List ℕ
-frameNumbers f = f.count ∷ f.locked ∷ flag f.whole ∷ tabulate 8 (λ k. (slot_at f k).page) ++ tabulate 8 (λ k. (slot_at f k).password)
+abbrev pub frame_numbers : Frame → List ℕ
+frame_numbers f = f.count ∷ f.locked ∷ flag f.whole ∷ tabulate 8 (λ k. (slot_at f k).page) ++ tabulate 8 (λ k. (slot_at f k).password)
 
-abbrev pub domainNumbers : Domain → List ℕ
-domainNumbers m =
+abbrev pub domain_numbers : Domain → List ℕ
+domain_numbers m =
     m.depth
-    ∷ frameNumbers m.active
-    ++ frameNumbers (saved_at m 0)
-    ++ frameNumbers (saved_at m 1)
-    ++ frameNumbers (saved_at m 2)
-    ++ frameNumbers (saved_at m 3)
+    ∷ frame_numbers m.active
+    ++ frame_numbers (saved_at m 0)
+    ++ frame_numbers (saved_at m 1)
+    ++ frame_numbers (saved_at m 2)
+    ++ frame_numbers (saved_at m 3)
 
 -- the caller's slots, locks and saved domains
 abbrev pub caller : World → List ℕ
-caller w = domainNumbers (domainAt w.state 0)
+caller w = domain_numbers (domain_at w.state 0)
 
-answers-computed : map (λ (n : Nested). answersBy searched (worldOf listingBoot) (whole n)) nested ≡ map (λ (n : Nested). expected (whole n)) nested
-unfolding answersBy
-answers-computed = refl
+answers_computed : map (λ (n : Nested). answers_by searched (world_of listing_boot) (whole n)) nested ≡ map (λ (n : Nested). expected (whole n)) nested
+unfolding answers_by
+answers_computed = refl
 
 -- every line is answered as it says: the page is written inside, the nested call refused, the write after the return refused
-pub nested-answers : map (λ (n : Nested). answers (worldOf listingBoot) (whole n)) nested ≡ map (λ (n : Nested). expected (whole n)) nested
-nested-answers =
-    map_same _ _ (λ n. answers-are (worldOf listingBoot) (boot-sound _ _ _) (whole n)) nested
-    ∙ by-search (λ j. map (λ (n : Nested). answersBy j (worldOf listingBoot) (whole n)) nested ≡ map (λ (n : Nested). expected (whole n)) nested) answers-computed
+pub nested_answers : map (λ (n : Nested). answers (world_of listing_boot) (whole n)) nested ≡ map (λ (n : Nested). expected (whole n)) nested
+nested_answers =
+    map_same _ _ (λ n. answers_are (world_of listing_boot) (boot_sound _ _ _) (whole n)) nested
+    ∙ by_search (λ j. map (λ (n : Nested). answers_by j (world_of listing_boot) (whole n)) nested ≡ map (λ (n : Nested). expected (whole n)) nested) answers_computed
 
 abbrev pub same_numbers : List ℕ → List ℕ → Bool
 same_numbers [] [] = true
@@ -96,27 +96,27 @@ same_numbers (x ∷ xs) (y ∷ ys) = eqb x y && same_numbers xs ys
 -- whether the nested call leaves the caller's slots, locks and saved domains as they were
 abbrev pub unchanged : Nested → Bool
 unchanged n =
-    let w = after (worldOf listingBoot) n.before in
-    let w' = after (worldOf listingBoot) (n.before ++ n.call ∷ []) in
+    let w = after (world_of listing_boot) n.before in
+    let w' = after (world_of listing_boot) (n.before ++ n.call ∷ []) in
     same_numbers (caller w) (caller w')
 
 -- the same, as it is computed
-abbrev pub unchangedBy : Judging → Nested → Bool
-unchangedBy judging n =
-    let w = afterBy judging (worldOf listingBoot) n.before in
-    let w' = afterBy judging (worldOf listingBoot) (n.before ++ n.call ∷ []) in
+abbrev pub unchanged_by : Judging → Nested → Bool
+unchanged_by judging n =
+    let w = after_by judging (world_of listing_boot) n.before in
+    let w' = after_by judging (world_of listing_boot) (n.before ++ n.call ∷ []) in
     same_numbers (caller w) (caller w')
 
-unchanged-computed : map (unchangedBy searched) nested ≡ replicate 6 true
-unfolding afterBy
-unchanged-computed = refl
+unchanged_computed : map (unchanged_by searched) nested ≡ replicate 6 true
+unfolding after_by
+unchanged_computed = refl
 
-unchanged-is : (n : Nested) → unchanged n ≡ unchangedBy judged n
-unchanged-is n =
+unchanged_is : (n : Nested) → unchanged n ≡ unchanged_by judged n
+unchanged_is n =
     rw (
-      after_is (worldOf listingBoot) (boot-sound _ _ _) n.before,
-      after_is (worldOf listingBoot) (boot-sound _ _ _) (n.before ++ n.call ∷ []),
+      after_is (world_of listing_boot) (boot_sound _ _ _) n.before,
+      after_is (world_of listing_boot) (boot_sound _ _ _) (n.before ++ n.call ∷ []),
     )
 
-pub nested-unchanged : map unchanged nested ≡ replicate 6 true
-nested-unchanged = map_same _ _ unchanged-is nested ∙ by-search (λ j. map (unchangedBy j) nested ≡ replicate 6 true) unchanged-computed
+pub nested_unchanged : map unchanged nested ≡ replicate 6 true
+nested_unchanged = map_same _ _ unchanged_is nested ∙ by_search (λ j. map (unchanged_by j) nested ≡ replicate 6 true) unchanged_computed

@@ -1,8 +1,8 @@
 -- The whole lock and the calls on objects, as computed runs behind the listing of document 01: document 02, T-03.
 use Rattle.std.specs.Prelude.{ℕ, ◌≡◌, refl, List, [], ◌∷◌, ◌++◌}
 use Rattle.judge.specs.Search.{searched}
-use Rattle.cases.specs.Runs.{Exchange, by, answersBy}
-use Rattle.cases.specs.Marked.{answersAfter, expectedAfter, computedAfter, by-computing, registered}
+use Rattle.cases.specs.Runs.{Exchange, by, answers_by}
+use Rattle.cases.specs.Marked.{answers_after, expected_after, computed_after, by_computing, registered}
 use Rattle.calls.specs.declared.Call.{Call}
 use Rattle.calls.specs.declared.Call.TheVariants.{OnObject, OnDomain}
 use Rattle.calls.specs.declared.ObjectCall.TheVariants.{Create, Delete, AddPassword, DropPassword, Register}
@@ -16,8 +16,8 @@ abbrev registers : Call
 registers =
     OnObject (Register 1 23 (record { page = 0; password = 11 }) (record { count = 1; first = 64; second = 0; third = 0; fourth = 0 }))
 
-abbrev pub wholeLockRuns : List (List Exchange)
-wholeLockRuns =
+abbrev pub whole_lock_runs : List (List Exchange)
+whole_lock_runs =
     -- AP and RG are stopped, by 6 behind 5; CR, DP, DL, LO and RT are not
     (by 0 (adds 22 1) (0 ∷ 0 ∷ [])
     ∷ by 0 (OnDomain (Lock 255)) (0 ∷ 0 ∷ [])
@@ -51,9 +51,9 @@ wholeLockRuns =
     ∷ [])
     ∷ []
 
-computed : computedAfter searched wholeLockRuns ≡ expectedAfter wholeLockRuns
-unfolding answersBy
+computed : computed_after searched whole_lock_runs ≡ expected_after whole_lock_runs
+unfolding answers_by
 computed = refl
 
-pub whole-lock : answersAfter wholeLockRuns ≡ expectedAfter wholeLockRuns
-whole-lock = by-computing wholeLockRuns computed
+pub whole_lock : answers_after whole_lock_runs ≡ expected_after whole_lock_runs
+whole_lock = by_computing whole_lock_runs computed

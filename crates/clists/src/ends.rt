@@ -1,11 +1,11 @@
 // Where a Clist ends: before its first pair of two zero words.
 ghost use Rattle.std.specs.Prelude.{◌≡◌, ◌+◌, ◌*◌, ◌<◌, length};
-ghost use Rattle.clists.specs.Clist.{zeroPair, listEnd};
+ghost use Rattle.clists.specs.Clist.{zero_pair, list_end};
 
 // Whether both words of pair i are zero.
 fn zero_pair(run: &[u64], i: usize) -> bool
     requires { 2 * i + 1 < length run.now }
-    ensures { result ≡ zeroPair run.now i }
+    ensures { result ≡ zero_pair run.now i }
 {
     if run[2 * i] != 0 {
         return false;
@@ -16,7 +16,7 @@ fn zero_pair(run: &[u64], i: usize) -> bool
 // How many pairs of a run stand before its first pair of two zero words, all of them where there is none. Eight are looked at in each turn;
 // the second loop is for a run of any length, and never turns on one of whole pages.
 pub fn list_end(run: &[u64]) -> usize
-    ensures { result ≡ listEnd run.now }
+    ensures { result ≡ list_end run.now }
 {
     let pairs = run.len() / 2;
     let mut i = 0;

@@ -1,10 +1,10 @@
 // Clists: the part of the store that is one, and whether a capability opens it.
 ghost use Rattle.std.specs.Prelude.{◌≡◌, cond};
 ghost use Rattle.rights.specs.Modes.{read, grants};
-ghost use Rattle.state.specs.Places.{estateAt};
-ghost use Rattle.state.specs.Lookup.{ordinaryMode};
-ghost use Rattle.clists.specs.Clist.{named, live, runWords, until_end};
-ghost use Rattle.clists.specs.Opening.{openedBy, openedIn};
+ghost use Rattle.state.specs.Places.{estate_at};
+ghost use Rattle.state.specs.Lookup.{ordinary_mode};
+ghost use Rattle.clists.specs.Clist.{named, live, run_words, until_end};
+ghost use Rattle.clists.specs.Opening.{opened_by, opened_in};
 
 use crate::ends::list_end;
 use rights::Rights;
@@ -16,7 +16,7 @@ mod ends;
 
 // The part of the store that is a run of pages; an empty part where the store is too short for it.
 fn run_of<'a>(store: &'a [u64], base: u8, pages: u8) -> &'a [u64]
-    ensures { result.now ≡ runWords store.now base pages }
+    ensures { result.now ≡ run_words store.now base pages }
 {
     let start = 64 * (base as usize);
     let end = 64 * (base as usize + pages as usize);
@@ -28,7 +28,7 @@ fn run_of<'a>(store: &'a [u64], base: u8, pages: u8) -> &'a [u64]
 
 // The part of the store that is the Clist of a run of pages: the run up to the list's end.
 pub fn clist<'a>(store: &'a [u64], base: u8, pages: u8) -> &'a [u64]
-    ensures { result.now ≡ until_end (runWords store.now base pages) }
+    ensures { result.now ≡ until_end (run_words store.now base pages) }
 {
     let run = run_of(store, base, pages);
     let end = 2 * list_end(run);
@@ -37,7 +37,7 @@ pub fn clist<'a>(store: &'a [u64], base: u8, pages: u8) -> &'a [u64]
 
 // Whether a password opens the object as a Clist: an ordinary one of it, positive, with R.
 fn opens(o: Object, password: u64) -> bool
-    ensures { result ≡ grants (ordinaryMode o password) read }
+    ensures { result ≡ grants (ordinary_mode o password) read }
 {
     let mode = Rights {
         bits: ordinary_mode(o, password),
@@ -54,7 +54,7 @@ pub fn live(t: Table, c: Capability) -> bool
 
 // The pages of an object where the password opens it, else 0.
 fn opened_by(o: Object, password: u64) -> u8
-    ensures { result ≡ openedBy o password }
+    ensures { result ≡ opened_by o password }
 {
     if opens(o, password) {
         return o.pages;
@@ -65,7 +65,7 @@ fn opened_by(o: Object, password: u64) -> u8
 // The pages of the object of the first estate that a capability names and opens, 0 where there is none. One function for each estate:
 // the estate is then copied once for its loop, where one handed over as a parameter is copied twice.
 fn opened_first(t: Table, c: Capability) -> u8
-    ensures { result ≡ openedIn (estateAt t 0) c }
+    ensures { result ≡ opened_in (estate_at t 0) c }
 {
     let e = t.estates[0];
     let page = c.page as u64;
@@ -82,7 +82,7 @@ fn opened_first(t: Table, c: Capability) -> u8
 
 // The same in the second estate.
 fn opened_second(t: Table, c: Capability) -> u8
-    ensures { result ≡ openedIn (estateAt t 1) c }
+    ensures { result ≡ opened_in (estate_at t 1) c }
 {
     let e = t.estates[1];
     let page = c.page as u64;
@@ -99,7 +99,7 @@ fn opened_second(t: Table, c: Capability) -> u8
 
 // The same in the third estate.
 fn opened_third(t: Table, c: Capability) -> u8
-    ensures { result ≡ openedIn (estateAt t 2) c }
+    ensures { result ≡ opened_in (estate_at t 2) c }
 {
     let e = t.estates[2];
     let page = c.page as u64;
@@ -116,7 +116,7 @@ fn opened_third(t: Table, c: Capability) -> u8
 
 // The same in the fourth estate.
 fn opened_fourth(t: Table, c: Capability) -> u8
-    ensures { result ≡ openedIn (estateAt t 3) c }
+    ensures { result ≡ opened_in (estate_at t 3) c }
 {
     let e = t.estates[3];
     let page = c.page as u64;

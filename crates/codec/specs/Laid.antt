@@ -9,26 +9,26 @@ abbrev pub lay : List ℕ → ℕ → List ℕ → List ℕ
 lay l i [] = l
 lay l i (x ∷ xs) = lay (set l i x) (i + 1) xs
 
-pub lay-length : (xs l : List ℕ) (i : ℕ) → length (lay l i xs) ≡ length l
-lay-length [] l i = refl
-lay-length (x ∷ xs) l i = lay-length xs (set l i x) (i + 1) ∙ length-set l i x
+pub lay_length : (xs l : List ℕ) (i : ℕ) → length (lay l i xs) ≡ length l
+lay_length [] l i = refl
+lay_length (x ∷ xs) l i = lay_length xs (set l i x) (i + 1) ∙ length-set l i x
 
-pub lay-append : (xs ys l : List ℕ) (i : ℕ) → lay l i (xs ++ ys) ≡ lay (lay l i xs) (i + length xs) ys
-lay-append [] ys l i = let e : i + 0 ≡ i = omega arith in rw e
-lay-append (x ∷ xs) ys l i =
+pub lay_append : (xs ys l : List ℕ) (i : ℕ) → lay l i (xs ++ ys) ≡ lay (lay l i xs) (i + length xs) ys
+lay_append [] ys l i = let e : i + 0 ≡ i = omega arith in rw e
+lay_append (x ∷ xs) ys l i =
     let e : i + suc (length xs) ≡ i + 1 + length xs = omega arith in
-    rw (lay-append xs ys (set l i x) (i + 1), e)
+    rw (lay_append xs ys (set l i x) (i + 1), e)
 
-pub lay-sets : (xs l : List ℕ) (i : ℕ) → lay l i xs ≡ sets l i xs
-lay-sets [] l i = refl
-lay-sets (x ∷ xs) l i = rw (lay-sets xs (set l i x) (i + 1), add-one)
+pub lay_sets : (xs l : List ℕ) (i : ℕ) → lay l i xs ≡ sets l i xs
+lay_sets [] l i = refl
+lay_sets (x ∷ xs) l i = rw (lay_sets xs (set l i x) (i + 1), add-one)
 
 -- a buffer that is filled whole
-pub lay-all : (xs l : List ℕ) → length l ≡ length xs → lay l 0 xs ≡ xs
-lay-all xs l e =
+pub lay_all : (xs l : List ℕ) → length l ≡ length xs → lay l 0 xs ≡ xs
+lay_all xs l e =
     let z : 0 + length xs ≡ length xs = omega arith in
-    rw (lay-sets, sets-eq xs l 0 (omega arith), z, drop_of_length-le l {i = length xs} (omega arith)) (append-nil xs)
+    rw (lay_sets, sets-eq xs l 0 (omega arith), z, drop_of_length-le l {i = length xs} (omega arith)) (append-nil xs)
 
 -- a value, and what comes behind it
 pub laid : {n : ℕ} {A : Type 0} (c : Codec n A) (a : A) (bs l : List ℕ) (i : ℕ) → lay l i (c.put a ++ bs) ≡ lay (lay l i (c.put a)) (i + n) bs
-laid c a bs l i = rw (lay-append, c.put-length)
+laid c a bs l i = rw (lay_append, c.put_length)

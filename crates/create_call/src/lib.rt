@@ -1,10 +1,10 @@
 // CR: a new object, on its own since it has more to test than the other calls on objects.
 ghost use Rattle.std.specs.Prelude.{◌&&◌, ◌≡◌, ◌+◌, ◌<◌, ◌≤◌, leb};
-ghost use Rattle.state.specs.Places.{objectAt};
-ghost use Rattle.state.specs.Extent.{liesIn, apart};
-ghost use Rattle.state.specs.Pages.{pagesOf};
+ghost use Rattle.state.specs.Places.{object_at};
+ghost use Rattle.state.specs.Extent.{lies_in, apart};
+ghost use Rattle.state.specs.Pages.{pages_of};
 ghost use Rattle.state.specs.declared.Frame.{Frame as Slots};
-ghost use Rattle.calls.specs.Arguments.{runFree};
+ghost use Rattle.calls.specs.Arguments.{run_free};
 ghost use Rattle.calls.specs.Rules.{in_range};
 ghost use Rattle.calls.specs.Parts.{Alters};
 ghost use Rattle.calls.specs.declared.Call.TheVariants.{OnObject};
@@ -23,7 +23,7 @@ use updates::objects::new_object;
 // Whether the object is apart from that at a place of the estate.
 fn place_apart(e: Estate, k: usize, o: Object) -> bool
     requires { k < 8 }
-    ensures { result ≡ apart (objectAt e k) o }
+    ensures { result ≡ apart (object_at e k) o }
 {
     let other = e.objects[k];
     apart(other, o)
@@ -31,7 +31,7 @@ fn place_apart(e: Estate, k: usize, o: Object) -> bool
 
 // Whether the object is apart from all of the estate.
 fn run_free(e: Estate, o: Object) -> bool
-    ensures { result ≡ runFree e o }
+    ensures { result ≡ run_free e o }
 {
     place_apart(e, 0, o)
         & place_apart(e, 1, o)
@@ -45,7 +45,7 @@ fn run_free(e: Estate, o: Object) -> bool
 
 // Whether the object lies in the estate of domain d, apart from all that stand there.
 fn run_ok(e: Estate, o: Object, d: u8) -> bool
-    ensures { result ≡ (liesIn o d && runFree e o) }
+    ensures { result ≡ (lies_in o d && run_free e o) }
 {
     lies_in(o, d) & run_free(e, o)
 }
@@ -53,7 +53,7 @@ fn run_ok(e: Estate, o: Object, d: u8) -> bool
 // Whether the account's pages, with as many more, are at most its limit.
 fn within_limit(t: Table, limit: u8, account: u64, pages: u64) -> bool
     requires { pages ≤ 32 }
-    ensures { result ≡ leb (pagesOf t account + pages) limit }
+    ensures { result ≡ leb (pages_of t account + pages) limit }
 {
     pages_of(t, account) as u64 + pages <= limit as u64
 }

@@ -1,9 +1,9 @@
 // The calls on the slots and locks of the caller's protection domain: IN, RM, GT and LO. Each hands back its answer beside that domain.
 ghost use Rattle.std.specs.Prelude.{◌≡◌, cond, not, ◌&&◌, List, ℕ, ◌<◌, leb, ltb, length};
 ghost use Rattle.state.specs.Places.{slot_at};
-ghost use Rattle.state.specs.Update.{withActive};
+ghost use Rattle.state.specs.Update.{with_active};
 ghost use Rattle.state.specs.declared.Table.{Table as Objects};
-ghost use Rattle.calls.specs.Changes.{flag, frameFields};
+ghost use Rattle.calls.specs.Changes.{flag, frame_fields};
 ghost use Rattle.calls.specs.Parts.{Moves};
 ghost use Rattle.calls.specs.declared.DomainCall.TheVariants.{Insert, Remove, Get, Lock};
 
@@ -15,7 +15,7 @@ use updates::frames::{insert_slot, lock_slot, remove_slot};
 
 // A domain with another active frame.
 fn with_active(m: Domain, f: Frame) -> Domain
-    ensures { result ≡ withActive m f }
+    ensures { result ≡ with_active m f }
 {
     let mut n = m;
     n.active = f;
@@ -100,7 +100,7 @@ fn flag(set: bool) -> u64
 
 // What a done Get reports of a frame.
 fn frame_fields(f: Frame) -> Fields
-    ensures { result ≡ frameFields f }
+    ensures { result ≡ frame_fields f }
 {
     Fields {
         count: 3 + f.count as u64,

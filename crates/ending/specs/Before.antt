@@ -10,42 +10,42 @@ use Rattle.calls.specs.Step.{step}
 use Rattle.calls.specs.Boot.{boot}
 use Rattle.calls.specs.declared.Answer.{Answer}
 use Rattle.calls.specs.declared.Answer.TheVariants.{Done, Refused}
-use Rattle.runs.specs.Laws.Unbooted.{Unbooted, empty-unbooted, step-unbooted}
+use Rattle.runs.specs.Laws.Unbooted.{Unbooted, empty_unbooted, step_unbooted}
 use Rattle.lines.specs.Grammar.{line_of}
-use Rattle.lines.specs.Reading.{Reading, answered, bootBy, call_by}
-use Rattle.replies.specs.Reply.{reply, stateAfter}
-use Rattle.stream.specs.Run.{Progress, onByteBy, onByte, started}
+use Rattle.lines.specs.Reading.{Reading, answered, boot_by, call_by}
+use Rattle.replies.specs.Reply.{reply, state_after}
+use Rattle.stream.specs.Run.{Progress, on_byte_by, on_byte, started}
 use Rattle.ending.specs.Behind.{behind}
 
 -- a line is a boot that is answered 0
 abbrev pub Boots : World → Reading → Type 0
 Boots w (answered number) = ⊥
-Boots w (bootBy d plan) = number_of (boot w.words d plan).outcome.answer ≡ 0
+Boots w (boot_by d plan) = number_of (boot w.words d plan).outcome.answer ≡ 0
 Boots w (call_by d c) = ⊥
 
 -- no line of these bytes is
 abbrev pub NoBoot : Progress → List ℕ → Type 0
 NoBoot r [] = Unit {0}
-NoBoot r (b ∷ bs) = (b ≡ 10 → Boots r.world (line_of r.line) → ⊥) × NoBoot (onByte r b) bs
+NoBoot r (b ∷ bs) = (b ≡ 10 → Boots r.world (line_of r.line) → ⊥) × NoBoot (on_byte r b) bs
 
-refused-stays : (old : State) (answer : Answer) (new : State) → (number_of answer ≡ 0 → ⊥) → Unbooted old → Unbooted (stateAfter old answer new)
-refused-stays old (Done value) new n u = absurd (n refl)
-refused-stays old (Refused why) new n u = u
+refused_stays : (old : State) (answer : Answer) (new : State) → (number_of answer ≡ 0 → ⊥) → Unbooted old → Unbooted (state_after old answer new)
+refused_stays old (Done value) new n u = absurd (n refl)
+refused_stays old (Refused why) new n u = u
 
-line-unbooted : (w : World) (r : Reading) → (Boots w r → ⊥) → Unbooted w.state → Unbooted (reply step w r).world.state
+line_unbooted : (w : World) (r : Reading) → (Boots w r → ⊥) → Unbooted w.state → Unbooted (reply step w r).world.state
 unfolding reply
-line-unbooted w (answered number) n u = u
-line-unbooted w (bootBy d plan) n u = refused-stays w.state (boot w.words d plan).outcome.answer (boot w.words d plan).outcome.state n u
-line-unbooted w (call_by d c) n u = step-unbooted w (record { domain = d; call = c }) u
+line_unbooted w (answered number) n u = u
+line_unbooted w (boot_by d plan) n u = refused_stays w.state (boot w.words d plan).outcome.answer (boot w.words d plan).outcome.state n u
+line_unbooted w (call_by d c) n u = step_unbooted w (record { domain = d; call = c }) u
 
-bytes-unbooted : (bs : List ℕ) (r : Progress) → NoBoot r bs → Unbooted r.world.state → Unbooted (foldl onByte r bs).world.state
-unfolding onByteBy
-bytes-unbooted [] r n u = u
-bytes-unbooted (b ∷ bs) r n u =
-    bytes-unbooted bs (onByte r b) n.1
-    (cond_ind (λ (z : Progress). Unbooted z.world.state) (eqb b 10) _ _ (λ e. line-unbooted r.world (line_of r.line) (n.0 (eqb-true b 10 e)) u) (λ e. u))
+bytes_unbooted : (bs : List ℕ) (r : Progress) → NoBoot r bs → Unbooted r.world.state → Unbooted (foldl on_byte r bs).world.state
+unfolding on_byte_by
+bytes_unbooted [] r n u = u
+bytes_unbooted (b ∷ bs) r n u =
+    bytes_unbooted bs (on_byte r b) n.1
+    (cond_ind (λ (z : Progress). Unbooted z.world.state) (eqb b 10) _ _ (λ e. line_unbooted r.world (line_of r.line) (n.0 (eqb-true b 10 e)) u) (λ e. u))
 
 -- BEFORE A BOOT nothing stands on any account, and no object stands
-pub unbooted-behind : (input : List ℕ) → NoBoot started input → Unbooted (behind input).state
+pub unbooted_behind : (input : List ℕ) → NoBoot started input → Unbooted (behind input).state
 unfolding behind started
-unbooted-behind input n = bytes-unbooted input started n empty-unbooted
+unbooted_behind input n = bytes_unbooted input started n empty_unbooted

@@ -9,43 +9,43 @@ use Rattle.lines.specs.Grammar.{line_of}
 use Rattle.lines.specs.Until.{until}
 use Rattle.lines.specs.Reading.{unreadable}
 use Rattle.replies.specs.Reply.{reply}
-use Rattle.stream.specs.Run.{Progress, onByteBy, extended, onByte, started}
-use Rattle.stream.specs.Feed.{startFeed, joined, Reached}
-use Rattle.stream.specs.Feeding.{before-feed}
-use Rattle.stream.specs.Reached.{reached-world}
+use Rattle.stream.specs.Run.{Progress, on_byte_by, extended, on_byte, started}
+use Rattle.stream.specs.Feed.{start_feed, joined, Reached}
+use Rattle.stream.specs.Feeding.{before_feed}
+use Rattle.stream.specs.Reached.{reached_world}
 use Rattle.stream.specs.declared.Feed.{Feed}
-use Rattle.turns.specs.Led.{Led, led-world}
+use Rattle.turns.specs.Led.{Led, led_world}
 
 -- THE WORLD BEHIND AN INPUT: state and store that the call program has when all of it is read
 unfoldable pub behind : List ℕ → World
-behind input = (foldl onByte started input).world
+behind input = (foldl on_byte started input).world
 
-abbrev pub tableBehind : List ℕ → Table
-tableBehind input = (behind input).state.table
+abbrev pub table_behind : List ℕ → Table
+table_behind input = (behind input).state.table
 
 -- an object table that some input leaves
 pub record Left (t : Table) : Type 0 where
   pub input : List ℕ
-  pub is : t ≡ tableBehind input
+  pub is : t ≡ table_behind input
 
-pub reached-left : (f : Feed) (words : List ℕ) → Reached (replicate 8192 0) f words → Left f.state.table
+pub reached_left : (f : Feed) (words : List ℕ) → Reached (replicate 8192 0) f words → Left f.state.table
 unfolding behind
-reached-left f words r = record { input = r.input; is = ap (λ (w : World). w.state.table) (reached-world f words r) }
+reached_left f words r = record { input = r.input; is = ap (λ (w : World). w.state.table) (reached_world f words r) }
 
 -- FOR ANY PIECES OF AN INPUT: from a store of zeros they lead to the world behind the whole input
-pub pieces-behind : (ps : List (List ℕ)) (f : Feed) (words : List ℕ) → Led startFeed (replicate 8192 0) ps f words → world f.state words ≡ behind (joined ps)
+pub pieces_behind : (ps : List (List ℕ)) (f : Feed) (words : List ℕ) → Led start_feed (replicate 8192 0) ps f words → world f.state words ≡ behind (joined ps)
 unfolding behind
-pieces-behind ps f words l = led-world ps f words l
+pieces_behind ps f words l = led_world ps f words l
 
 -- A LAST LINE WITHOUT ITS LINE FEED is passed over: bytes with no line feed among them
-pub unfinished-behind : (input rest : List ℕ) → until 10 rest ≡ length rest → behind (input ++ rest) ≡ behind input
+pub unfinished_behind : (input rest : List ℕ) → until 10 rest ≡ length rest → behind (input ++ rest) ≡ behind input
 unfolding behind
-unfinished-behind input rest e =
-    let r : Progress = foldl onByte started input in
+unfinished_behind input rest e =
+    let r : Progress = foldl on_byte started input in
     let all : take (until 10 rest) rest ≡ rest = take_all (until 10 rest) rest (omega arith) in
-    ap (λ (p : Progress). p.world) (foldl-append onByte started input rest ∙ rw all at (before-feed step extended rest r))
+    ap (λ (p : Progress). p.world) (foldl-append on_byte started input rest ∙ rw all at (before_feed step extended rest r))
 
 -- A LINE THAT IS NOT READABLE is passed over, with its line feed
-pub unreadable-behind : (input : List ℕ) → line_of (foldl onByte started input).line ≡ unreadable → behind (input ++ (10 ∷ [])) ≡ behind input
-unfolding behind onByteBy reply
-unreadable-behind input e = ap (λ (p : Progress). p.world) (foldl-append onByte started input (10 ∷ [])) ∙ rw e refl
+pub unreadable_behind : (input : List ℕ) → line_of (foldl on_byte started input).line ≡ unreadable → behind (input ++ (10 ∷ [])) ≡ behind input
+unfolding behind on_byte_by reply
+unreadable_behind input e = ap (λ (p : Progress). p.world) (foldl-append on_byte started input (10 ∷ [])) ∙ rw e refl

@@ -1,7 +1,7 @@
 // The state as a byte image of one fixed length, and back.
 ghost use Rattle.std.specs.Prelude.{◌≡◌, length};
 ghost use Rattle.soundness.specs.Sound.{sound};
-ghost use Rattle.layout.specs.Sizes.{stateSize};
+ghost use Rattle.layout.specs.Sizes.{state_size};
 ghost use Rattle.image.specs.Image.{reading, written};
 
 use layout::sizes::STATE;
@@ -36,7 +36,7 @@ pub fn read_image(image: &[u8]) -> Reading
 // Writes the image of a state. Reading it gives that state, if it is sound.
 pub fn write_image(image: &mut [u8], s: State)
     ensures image_after { image.new ≡ written image.old s }
-    ensures image_after_2 { length image.old ≡ stateSize → reading image.new ≡ record { readable = sound s; state = s } }
+    ensures image_after_2 { length image.old ≡ state_size → reading image.new ≡ record { readable = sound s; state = s } }
 {
     put_state(image, s);
 }

@@ -10,8 +10,8 @@ unfoldable pub member : Group → ℕ → Bool
 member G d = ltb d 4 && G.domains d
 
 -- a page or an address is inside where the estate that it lies in is a member's; an object is where its base is
-abbrev pub insidePage : Group → ℕ → Bool
-insidePage G page = member G (page / 32)
+abbrev pub inside_page : Group → ℕ → Bool
+inside_page G page = member G (page / 32)
 
-abbrev pub insideAddress : Group → ℕ → Bool
-insideAddress G a = insidePage G (a / 64)
+abbrev pub inside_address : Group → ℕ → Bool
+inside_address G a = inside_page G (a / 64)

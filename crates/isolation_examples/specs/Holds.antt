@@ -6,12 +6,12 @@ use Rattle.calls.specs.declared.Access.TheVariants.{Read, Write, Lookup}
 use Rattle.calls.specs.declared.ObjectCall.TheVariants.{Create, Delete, AddPassword}
 use Rattle.calls.specs.declared.DomainCall.TheVariants.{Insert, Remove, Get, Lock, PdxCall, PdxReturn}
 use Rattle.isolation.specs.Group.{Group}
-use Rattle.isolation.specs.Runs.{membersCalls}
+use Rattle.isolation.specs.Runs.{members_calls}
 use Rattle.isolation.specs.Claim.{Comparable}
-use Rattle.isolation_examples.specs.Tests.{allTrue}
-use Rattle.isolation_examples.specs.Decided.{tests-hold}
-use Rattle.isolation_examples.specs.Compared.{allSame, comparing}
-use Rattle.isolation_examples.specs.Shown.{Told, run_of, Shown, by-computing, done, refuses, registers}
+use Rattle.isolation_examples.specs.Tests.{all_true}
+use Rattle.isolation_examples.specs.Decided.{tests_hold}
+use Rattle.isolation_examples.specs.Compared.{all_same, comparing}
+use Rattle.isolation_examples.specs.Shown.{Told, run_of, Shown, by_computing, done, refuses, registers}
 
 -- the group of domains 1 and 2
 abbrev pub pair : Group
@@ -100,14 +100,14 @@ other =
     }
 
 -- every line is answered as told, every premise's test is true, and every part of the conclusion is the same
-pub shown : Shown pair one other allTrue allSame
+pub shown : Shown pair one other all_true all_same
 unfolding comparing
-shown = by-computing pair one other allTrue allSame (record { answered = refl; answered' = refl; tested = refl; compared = refl })
+shown = by_computing pair one other all_true all_same (record { answered = refl; answered' = refl; tested = refl; compared = refl })
 
 -- so the two runs are comparable
 pub comparable : Comparable pair (run_of one) (run_of other)
 unfolding comparing
-comparable = tests-hold pair (run_of one) (run_of other) shown.tested same-calls
+comparable = tests_hold pair (run_of one) (run_of other) shown.tested same_calls
   where
-    same-calls : membersCalls pair (run_of one) ≡ membersCalls pair (run_of other)
-    same-calls = refl
+    same_calls : members_calls pair (run_of one) ≡ members_calls pair (run_of other)
+    same_calls = refl

@@ -5,16 +5,16 @@ use Rattle.judge.specs.Search.{searched}
 use Rattle.judge.specs.Judged.{judged}
 use Rattle.calls.specs.View.{Judging}
 use Rattle.calls.specs.Runs.{Event}
-use Rattle.calls.specs.Laws.Booted.{boot-sound}
-use Rattle.cases.specs.Runs.{Exchange, answers, expected, answersBy, answers-are, by-search}
+use Rattle.calls.specs.Laws.Booted.{boot_sound}
+use Rattle.cases.specs.Runs.{Exchange, answers, expected, answers_by, answers_are, by_search}
 use Rattle.calls.specs.declared.Call.{Call}
 use Rattle.calls.specs.declared.Call.TheVariants.{OnObject}
 use Rattle.calls.specs.declared.ObjectCall.TheVariants.{Register}
 use Rattle.isolation.specs.Group.{Group}
 use Rattle.isolation.specs.Runs.{Run, start_of}
 use Rattle.isolation.specs.Claim.{Isolated}
-use Rattle.isolation_examples.specs.Tests.{Tests, testsBy}
-use Rattle.isolation_examples.specs.Compared.{Parts, partsBy, parts-hold}
+use Rattle.isolation_examples.specs.Tests.{Tests, tests_by}
+use Rattle.isolation_examples.specs.Compared.{Parts, parts_by, parts_hold}
 
 -- a run, each call with the number and values that it must answer
 pub record Told : Type 0 where
@@ -23,33 +23,33 @@ pub record Told : Type 0 where
   pub plan : List ℕ
   pub exchanges : List Exchange
 
-abbrev pub eventOf : Exchange → Event
-eventOf e = record { domain = e.domain; call = e.call }
+abbrev pub event_of : Exchange → Event
+event_of e = record { domain = e.domain; call = e.call }
 
 abbrev pub run_of : Told → Run
-run_of t = record { store = t.store; booter = t.booter; plan = t.plan; events = map eventOf t.exchanges }
+run_of t = record { store = t.store; booter = t.booter; plan = t.plan; events = map event_of t.exchanges }
 
 -- two runs computed: every answer, every premise's test, every part of the conclusion
 pub record Computed (judging : Judging) (G : Group) (t t' : Told) (tests : Tests) (parts : Parts) : Type 0 where
-  pub answered : answersBy judging (start_of (run_of t)) t.exchanges ≡ expected t.exchanges
-  pub answered' : answersBy judging (start_of (run_of t')) t'.exchanges ≡ expected t'.exchanges
-  pub tested : testsBy judging G (run_of t) (run_of t') ≡ tests
-  pub compared : partsBy judging G (run_of t) (run_of t') ≡ parts
+  pub answered : answers_by judging (start_of (run_of t)) t.exchanges ≡ expected t.exchanges
+  pub answered' : answers_by judging (start_of (run_of t')) t'.exchanges ≡ expected t'.exchanges
+  pub tested : tests_by judging G (run_of t) (run_of t') ≡ tests
+  pub compared : parts_by judging G (run_of t) (run_of t') ≡ parts
 
 -- what is shown thereby: every call is answered as told, and the tests and parts are those of the judgement
 pub record Shown (G : Group) (t t' : Told) (tests : Tests) (parts : Parts) : Type 0 where
   pub answered : answers (start_of (run_of t)) t.exchanges ≡ expected t.exchanges
   pub answered' : answers (start_of (run_of t')) t'.exchanges ≡ expected t'.exchanges
-  pub tested : testsBy judged G (run_of t) (run_of t') ≡ tests
-  pub compared : partsBy judged G (run_of t) (run_of t') ≡ parts
+  pub tested : tests_by judged G (run_of t) (run_of t') ≡ tests
+  pub compared : parts_by judged G (run_of t) (run_of t') ≡ parts
 
 -- what the search computes holds of the judgement
-pub by-computing : (G : Group) (t t' : Told) (tests : Tests) (parts : Parts) → Computed searched G t t' tests parts → Shown G t t' tests parts
-by-computing G t t' tests parts c =
-    let s = by-search (λ j. Computed j G t t' tests parts) c in
+pub by_computing : (G : Group) (t t' : Told) (tests : Tests) (parts : Parts) → Computed searched G t t' tests parts → Shown G t t' tests parts
+by_computing G t t' tests parts c =
+    let s = by_search (λ j. Computed j G t t' tests parts) c in
     record {
-      answered = answers-are (start_of (run_of t)) (boot-sound _ _ _) t.exchanges ∙ s.answered;
-      answered' = answers-are (start_of (run_of t')) (boot-sound _ _ _) t'.exchanges ∙ s.answered';
+      answered = answers_are (start_of (run_of t)) (boot_sound _ _ _) t.exchanges ∙ s.answered;
+      answered' = answers_are (start_of (run_of t')) (boot_sound _ _ _) t'.exchanges ∙ s.answered';
       tested = s.tested;
       compared = s.compared;
     }
@@ -62,7 +62,7 @@ differ p = not (p.answers && p.words && p.estates && p.domains)
 pub fails : {G : Group} {t t' : Told} {tests : Tests} {parts : Parts} → Shown G t t' tests parts → differ parts ≡ true
     → Isolated G (run_of t) (run_of t') → ⊥
 fails {G} {t} {t'} s h i =
-    let e = sym s.compared ∙ parts-hold G (run_of t) (run_of t') i in true≢false (sym h ∙ ap differ e)
+    let e = sym s.compared ∙ parts_hold G (run_of t) (run_of t') i in true≢false (sym h ∙ ap differ e)
 
 -- the plan of a boot with home passwords that gives each domain an account of its own, with a limit of 128: domain d account d, and the
 -- set of that account alone

@@ -4,7 +4,7 @@ use Rattle.std.specs.Prelude.{ℕ, Bool, true, false, cond, ◌||◌, List, eqb}
 use Rattle.state.specs.Extent.{free}
 use Rattle.state.specs.declared.Table.{Table}
 use Rattle.state.specs.declared.Frame.{Frame}
-use Rattle.judge.specs.Search.{frameFirst, judgementOf, targeted}
+use Rattle.judge.specs.Search.{frame_first, judgement_of, targeted}
 use Rattle.judge.specs.declared.Target.{Target}
 use Rattle.judge.specs.declared.Verdict.{Verdict}
 use Rattle.judge.specs.declared.Verdict.TheVariants.{Granted, Denied, Passed}
@@ -17,6 +17,6 @@ deciding Denied = true
 deciding Passed = false
 
 -- the first pair that decides, by slot and then by place
-unfoldable pub formerlySearched : Table → List ℕ → Frame → Target → ℕ → Judgement
-formerlySearched t words f target wanted =
-    cond (free (targeted t target) || eqb wanted 0) Refused (judgementOf (frameFirst deciding t words f (targeted t target) wanted))
+unfoldable pub formerly_searched : Table → List ℕ → Frame → Target → ℕ → Judgement
+formerly_searched t words f target wanted =
+    cond (free (targeted t target) || eqb wanted 0) Refused (judgement_of (frame_first deciding t words f (targeted t target) wanted))

@@ -4,11 +4,11 @@ use Rattle.bounded.specs.Search.{first}
 use Rattle.rights.specs.Modes.{grants, denies}
 use Rattle.state.specs.Places.{slot_at}
 use Rattle.state.specs.Extent.{free}
-use Rattle.state.specs.Lookup.{objectCovering, objectBased, mode_of}
+use Rattle.state.specs.Lookup.{object_covering, object_based, mode_of}
 use Rattle.state.specs.declared.Object.{Object}
 use Rattle.state.specs.declared.Table.{Table}
 use Rattle.state.specs.declared.Frame.{Frame}
-use Rattle.clists.specs.Clist.{listAt}
+use Rattle.clists.specs.Clist.{list_at}
 use Rattle.judge.specs.declared.Target.{Target}
 use Rattle.judge.specs.declared.Target.TheVariants.{Address, Base}
 use Rattle.judge.specs.declared.Verdict.{Verdict}
@@ -18,16 +18,16 @@ use Rattle.judge.specs.declared.Judgement.TheVariants.{Refused}
 
 -- the mode that a pair of words has for the object: that of its password where its page is the base, else 0; the hint, the last
 -- byte of the first word, is not looked at
-unfoldable pub pairMode : Object → ℕ → ℕ → ℕ
-pairMode o word password = cond (eqb (word / 256) o.base) (mode_of o password) 0
+unfoldable pub pair_mode : Object → ℕ → ℕ → ℕ
+pair_mode o word password = cond (eqb (word / 256) o.base) (mode_of o password) 0
 
 -- rule 3: the pair at an address grants the wanted rights or denies them, as its mode does, or is passed over
-unfoldable pub verdictOf : ℕ → ℕ → ℕ → Verdict
-verdictOf mode wanted at = cond (grants mode wanted) (Granted at) (cond (denies mode wanted) Denied Passed)
+unfoldable pub verdict_of : ℕ → ℕ → ℕ → Verdict
+verdict_of mode wanted at = cond (grants mode wanted) (Granted at) (cond (denies mode wanted) Denied Passed)
 
 -- what pair i of a Clist says; `start` is the address of the Clist's first word
-unfoldable pub pairVerdict : List ℕ → ℕ → Object → ℕ → ℕ → Verdict
-pairVerdict list start o wanted i = verdictOf (pairMode o (get_or list (2 * i) 0) (get_or list (2 * i + 1) 0)) wanted (start + 2 * i)
+unfoldable pub pair_verdict : List ℕ → ℕ → Object → ℕ → ℕ → Verdict
+pair_verdict list start o wanted i = verdict_of (pair_mode o (get_or list (2 * i) 0) (get_or list (2 * i + 1) 0)) wanted (start + 2 * i)
 
 abbrev pub granting : Verdict → Bool
 granting (Granted at) = true
@@ -40,36 +40,36 @@ denying Denied = true
 denying Passed = false
 
 -- rule 2: within a Clist, by place, what the first pair says whose verdict passes a test; nothing where there is none
-unfoldable pub listFirst : (Verdict → Bool) → List ℕ → ℕ → Object → ℕ → Verdict
-listFirst test list start o wanted =
-    first (λ i. test (pairVerdict list start o wanted i)) (pairVerdict list start o wanted) Passed 0 (length list / 2)
+unfoldable pub list_first : (Verdict → Bool) → List ℕ → ℕ → Object → ℕ → Verdict
+list_first test list start o wanted =
+    first (λ i. test (pair_verdict list start o wanted i)) (pair_verdict list start o wanted) Passed 0 (length list / 2)
 
 -- the same of slot k; its Clist starts at the page that the slot names
-unfoldable pub slotFirst : (Verdict → Bool) → Table → List ℕ → Frame → Object → ℕ → ℕ → Verdict
-slotFirst test t words f o wanted k = listFirst test (listAt t words f k) (64 * (slot_at f k).page) o wanted
+unfoldable pub slot_first : (Verdict → Bool) → Table → List ℕ → Frame → Object → ℕ → ℕ → Verdict
+slot_first test t words f o wanted k = list_first test (list_at t words f k) (64 * (slot_at f k).page) o wanted
 
 -- rule 2: the same of all slots, by slot and then by place
-unfoldable pub frameFirst : (Verdict → Bool) → Table → List ℕ → Frame → Object → ℕ → Verdict
-frameFirst test t words f o wanted = first (λ k. test (slotFirst test t words f o wanted k)) (slotFirst test t words f o wanted) Passed 0 8
+unfoldable pub frame_first : (Verdict → Bool) → Table → List ℕ → Frame → Object → ℕ → Verdict
+frame_first test t words f o wanted = first (λ k. test (slot_first test t words f o wanted k)) (slot_first test t words f o wanted) Passed 0 8
 
 -- document 02, T-07, in place of rule 4's first sentence: denied where a pair in any place denies (the paper's ban), else granted by the
 -- first granting pair
-unfoldable pub frameVerdict : Table → List ℕ → Frame → Object → ℕ → Verdict
-frameVerdict t words f o wanted =
-    cond (denying (frameFirst denying t words f o wanted)) Denied (frameFirst granting t words f o wanted)
+unfoldable pub frame_verdict : Table → List ℕ → Frame → Object → ℕ → Verdict
+frame_verdict t words f o wanted =
+    cond (denying (frame_first denying t words f o wanted)) Denied (frame_first granting t words f o wanted)
 
 -- rule 4: a denial, and no granting pair, are refused alike
-abbrev pub judgementOf : Verdict → Judgement
-judgementOf (Granted at) = Judgement.Granted at
-judgementOf Denied = Refused
-judgementOf Passed = Refused
+abbrev pub judgement_of : Verdict → Judgement
+judgement_of (Granted at) = Judgement.Granted at
+judgement_of Denied = Refused
+judgement_of Passed = Refused
 
 -- the object asked for, a free one where there is none
 abbrev pub targeted : Table → Target → Object
-targeted t (Address a) = objectCovering t (a / 64)
-targeted t (Base b) = objectBased t b
+targeted t (Address a) = object_covering t (a / 64)
+targeted t (Base b) = object_based t b
 
 -- rules 3 and 4: refused too where no object is asked for, or no right is wanted
 unfoldable pub searched : Table → List ℕ → Frame → Target → ℕ → Judgement
 searched t words f target wanted =
-    cond (free (targeted t target) || eqb wanted 0) Refused (judgementOf (frameVerdict t words f (targeted t target) wanted))
+    cond (free (targeted t target) || eqb wanted 0) Refused (judgement_of (frame_verdict t words f (targeted t target) wanted))

@@ -2,8 +2,8 @@
 ghost use Rattle.std.specs.Prelude.{◌≡◌, cond, ◌||◌, [], ◌*◌, ◌<◌, eqb};
 ghost use Rattle.state.specs.Extent.{free};
 ghost use Rattle.clists.specs.Clist.{named, live, clist};
-ghost use Rattle.judge.specs.Search.{frameVerdict, judgementOf};
-ghost use Rattle.judge.specs.Walk.{listVerdict};
+ghost use Rattle.judge.specs.Search.{frame_verdict, judgement_of};
+ghost use Rattle.judge.specs.Walk.{list_verdict};
 ghost use Rattle.judge.specs.Judged.{judged};
 ghost use Rattle.judge.specs.declared.Judgement.TheVariants.{Refused};
 
@@ -40,7 +40,7 @@ pub enum Judgement {
 // What the Clist says that a capability opens, where it is live.
 fn slot_verdict(t: Table, store: &[u64], c: Capability, o: Object, wanted: Rights) -> Verdict
     requires { 0 < wanted.bits }
-    ensures { result ≡ listVerdict (cond (live t c) (clist store.now (named t c)) []) (64 * c.page) o wanted.bits }
+    ensures { result ≡ list_verdict (cond (live t c) (clist store.now (named t c)) []) (64 * c.page) o wanted.bits }
 {
     list_verdict(
         clist(store, c.page, opened(t, c)),
@@ -53,7 +53,7 @@ fn slot_verdict(t: Table, store: &[u64], c: Capability, o: Object, wanted: Right
 // What the frame's live slots say, by slot and then by place: the walk goes on behind a grant, since a later pair may deny.
 fn frame_verdict(t: Table, store: &[u64], f: Frame, o: Object, wanted: Rights) -> Verdict
     requires { 0 < wanted.bits }
-    ensures { result ≡ frameVerdict t store.now f o wanted.bits }
+    ensures { result ≡ frame_verdict t store.now f o wanted.bits }
 {
     let count = f.count as usize;
     let mut found = Verdict::Passed;
@@ -74,7 +74,7 @@ fn frame_verdict(t: Table, store: &[u64], f: Frame, o: Object, wanted: Rights) -
 
 // A verdict as a judgement: only a grant is one.
 fn judgement_of(v: Verdict) -> Judgement
-    ensures { result ≡ judgementOf v }
+    ensures { result ≡ judgement_of v }
 {
     match v {
         Verdict::Granted(at) => return Judgement::Granted(at),
@@ -85,7 +85,7 @@ fn judgement_of(v: Verdict) -> Judgement
 
 // Whether the frame's Clists grant the wanted rights on an object.
 fn judge_object(t: Table, store: &[u64], f: Frame, o: Object, wanted: Rights) -> Judgement
-    ensures { result ≡ cond (free o || eqb wanted.bits 0) Refused (judgementOf (frameVerdict t store.now f o wanted.bits)) }
+    ensures { result ≡ cond (free o || eqb wanted.bits 0) Refused (judgement_of (frame_verdict t store.now f o wanted.bits)) }
 {
     if (o.pages == 0) | (wanted.bits == 0) {
         return Judgement::Refused;

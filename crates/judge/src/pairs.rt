@@ -2,9 +2,9 @@
 ghost use Rattle.std.specs.Prelude.{◌≡◌, true, ◌+◌, ◌*◌, ◌<◌, ◌≤◌, length, get_or};
 ghost use Rattle.bounded.specs.Search.{Skipped};
 ghost use Rattle.state.specs.Lookup.{mode_of};
-ghost use Rattle.judge.specs.Search.{verdictOf, pairVerdict, denying};
+ghost use Rattle.judge.specs.Search.{verdict_of, pair_verdict, denying};
 ghost use Rattle.judge.specs.Naming.{names};
-ghost use Rattle.judge.specs.Walk.{listVerdict, or_else};
+ghost use Rattle.judge.specs.Walk.{list_verdict, or_else};
 
 use crate::Verdict;
 use rights::Rights;
@@ -13,7 +13,7 @@ use state::objects::mode_of;
 
 // What a true pair of this mode says.
 fn verdict_of(mode: Rights, wanted: Rights, at: u64) -> Verdict
-    ensures { result ≡ verdictOf mode.bits wanted.bits at }
+    ensures { result ≡ verdict_of mode.bits wanted.bits at }
 {
     if mode.grants(wanted) {
         return Verdict::Granted(at);
@@ -57,7 +57,7 @@ fn mode_at(list: &[u64], o: Object, i: usize) -> u8
 // What pair i of a Clist says, where it names the object; `start` is the address of the Clist's first word.
 fn pair_verdict(list: &[u64], start: u64, o: Object, wanted: Rights, i: usize) -> Verdict
     requires { (2 * i + 1 < length list.now) × (start < 65536) × (names list.now o.base i ≡ true) }
-    ensures { result ≡ pairVerdict list.now start o wanted.bits i }
+    ensures { result ≡ pair_verdict list.now start o wanted.bits i }
 {
     let mode = Rights {
         bits: mode_at(list, o, i),
@@ -101,7 +101,7 @@ fn next_pair(list: &[u64], pairs: usize, from: usize, base: u64) -> usize
 // anything.
 pub fn list_verdict(list: &[u64], start: u64, o: Object, wanted: Rights) -> Verdict
     requires { (start < 65536) × (0 < wanted.bits) }
-    ensures { result ≡ listVerdict list.now start o wanted.bits }
+    ensures { result ≡ list_verdict list.now start o wanted.bits }
 {
     let pairs = list.len() / 2;
     let base = o.base as u64;

@@ -1,7 +1,7 @@
 // A protection domain in its image.
 ghost use Rattle.std.specs.Prelude.{◌≡◌, ◌+◌, ◌≤◌, length, drop};
 ghost use Rattle.codec.specs.Laid.{lay};
-ghost use Rattle.layout.specs.Sizes.{capabilitySize, domainSize, domainsSize, frameSize, savedSize, slotsSize};
+ghost use Rattle.layout.specs.Sizes.{capability_size, domain_size, domains_size, frame_size, saved_size, slots_size};
 ghost use Rattle.layout.specs.Layout.{capability, slots, frame, saved, domain, domains};
 
 use crate::numbers::{put_byte, put_truth, put_word, word_at};
@@ -12,7 +12,7 @@ use state::{Capability, Domain, Frame};
 
 // A capability: its page, then its password.
 pub fn capability_at(s: &[u8], at: usize) -> Capability
-    requires { at + capabilitySize ≤ length s.now }
+    requires { at + capability_size ≤ length s.now }
     ensures { result ≡ capability.get (drop at s.now) }
 {
     Capability {
@@ -22,7 +22,7 @@ pub fn capability_at(s: &[u8], at: usize) -> Capability
 }
 
 pub fn put_capability(s: &mut [u8], at: usize, c: Capability)
-    requires { at + capabilitySize ≤ length s.old }
+    requires { at + capability_size ≤ length s.old }
     ensures { (s.new ≡ lay s.old at (capability.put c)) × capability.fits c }
 {
     put_byte(s, at, c.page);
@@ -31,7 +31,7 @@ pub fn put_capability(s: &mut [u8], at: usize, c: Capability)
 
 // The slots of a frame.
 pub fn slots_at(s: &[u8], at: usize) -> [Capability; 8]
-    requires { at + slotsSize ≤ length s.now }
+    requires { at + slots_size ≤ length s.now }
     ensures { result ≡ slots.get (drop at s.now) }
 {
     [
@@ -47,7 +47,7 @@ pub fn slots_at(s: &[u8], at: usize) -> [Capability; 8]
 }
 
 pub fn put_slots(s: &mut [u8], at: usize, v: [Capability; 8])
-    requires { at + slotsSize ≤ length s.old }
+    requires { at + slots_size ≤ length s.old }
     ensures { (s.new ≡ lay s.old at (slots.put v)) × slots.fits v }
 {
     let mut i = 0;
@@ -59,7 +59,7 @@ pub fn put_slots(s: &mut [u8], at: usize, v: [Capability; 8])
 
 // A frame: its slots, their number, the locked count and the whole lock.
 pub fn frame_at(s: &[u8], at: usize) -> Frame
-    requires { at + frameSize ≤ length s.now }
+    requires { at + frame_size ≤ length s.now }
     ensures { result ≡ frame.get (drop at s.now) }
 {
     Frame {
@@ -72,14 +72,14 @@ pub fn frame_at(s: &[u8], at: usize) -> Frame
 
 // Whether the whole lock is 0 or 1.
 pub fn frame_ok(s: &[u8], at: usize) -> bool
-    requires { at + frameSize ≤ length s.now }
+    requires { at + frame_size ≤ length s.now }
     ensures { result ≡ frame.ok (drop at s.now) }
 {
     s[at + FRAME_WHOLE] <= 1
 }
 
 pub fn put_frame(s: &mut [u8], at: usize, f: Frame)
-    requires { at + frameSize ≤ length s.old }
+    requires { at + frame_size ≤ length s.old }
     ensures { (s.new ≡ lay s.old at (frame.put f)) × frame.fits f }
 {
     let slots = f.slots;
@@ -91,7 +91,7 @@ pub fn put_frame(s: &mut [u8], at: usize, f: Frame)
 
 // The saved frames.
 pub fn saved_at(s: &[u8], at: usize) -> [Frame; 4]
-    requires { at + savedSize ≤ length s.now }
+    requires { at + saved_size ≤ length s.now }
     ensures { result ≡ saved.get (drop at s.now) }
 {
     [
@@ -103,7 +103,7 @@ pub fn saved_at(s: &[u8], at: usize) -> [Frame; 4]
 }
 
 pub fn put_saved(s: &mut [u8], at: usize, v: [Frame; 4])
-    requires { at + savedSize ≤ length s.old }
+    requires { at + saved_size ≤ length s.old }
     ensures { (s.new ≡ lay s.old at (saved.put v)) × saved.fits v }
 {
     let mut i = 0;
@@ -115,7 +115,7 @@ pub fn put_saved(s: &mut [u8], at: usize, v: [Frame; 4])
 
 // A domain: its frame, the saved ones and their number.
 pub fn domain_at(s: &[u8], at: usize) -> Domain
-    requires { at + domainSize ≤ length s.now }
+    requires { at + domain_size ≤ length s.now }
     ensures { result ≡ domain.get (drop at s.now) }
 {
     Domain {
@@ -127,7 +127,7 @@ pub fn domain_at(s: &[u8], at: usize) -> Domain
 
 // Whether every whole lock is 0 or 1.
 pub fn domain_ok(s: &[u8], at: usize) -> bool
-    requires { at + domainSize ≤ length s.now }
+    requires { at + domain_size ≤ length s.now }
     ensures { result ≡ domain.ok (drop at s.now) }
 {
     frame_ok(s, at)
@@ -138,7 +138,7 @@ pub fn domain_ok(s: &[u8], at: usize) -> bool
 }
 
 pub fn put_domain(s: &mut [u8], at: usize, m: Domain)
-    requires { at + domainSize ≤ length s.old }
+    requires { at + domain_size ≤ length s.old }
     ensures { (s.new ≡ lay s.old at (domain.put m)) × domain.fits m }
 {
     let active = m.active;
@@ -150,7 +150,7 @@ pub fn put_domain(s: &mut [u8], at: usize, m: Domain)
 
 // The four domains.
 pub fn domains_at(s: &[u8], at: usize) -> [Domain; 4]
-    requires { at + domainsSize ≤ length s.now }
+    requires { at + domains_size ≤ length s.now }
     ensures { result ≡ domains.get (drop at s.now) }
 {
     [
@@ -162,7 +162,7 @@ pub fn domains_at(s: &[u8], at: usize) -> [Domain; 4]
 }
 
 pub fn put_domains(s: &mut [u8], at: usize, v: [Domain; 4])
-    requires { at + domainsSize ≤ length s.old }
+    requires { at + domains_size ≤ length s.old }
     ensures { (s.new ≡ lay s.old at (domains.put v)) × domains.fits v }
 {
     let mut i = 0;
@@ -174,7 +174,7 @@ pub fn put_domains(s: &mut [u8], at: usize, v: [Domain; 4])
 
 // Whether every whole lock is 0 or 1.
 pub fn domains_ok(s: &[u8], at: usize) -> bool
-    requires { at + domainsSize ≤ length s.now }
+    requires { at + domains_size ≤ length s.now }
     ensures { result ≡ domains.ok (drop at s.now) }
 {
     domain_ok(s, at)

@@ -1,7 +1,7 @@
 // The object table in its image.
 ghost use Rattle.std.specs.Prelude.{◌≡◌, ◌+◌, ◌≤◌, length, drop};
 ghost use Rattle.codec.specs.Laid.{lay};
-ghost use Rattle.layout.specs.Sizes.{entriesSize, estateSize, objectSize, passwordSize, passwordsSize, registrationSize, tableSize};
+ghost use Rattle.layout.specs.Sizes.{entries_size, estate_size, object_size, password_size, passwords_size, registration_size, table_size};
 ghost use Rattle.layout.specs.Layout.{password, entries, registration, passwords, object, objects, estate, estates, table};
 
 use crate::frames::{capability_at, put_capability};
@@ -14,7 +14,7 @@ use state::{Estate, Object, Password, Registration, Table};
 
 // A password: its word, then its mode.
 pub fn password_at(s: &[u8], at: usize) -> Password
-    requires { at + passwordSize ≤ length s.now }
+    requires { at + password_size ≤ length s.now }
     ensures { result ≡ password.get (drop at s.now) }
 {
     Password {
@@ -24,7 +24,7 @@ pub fn password_at(s: &[u8], at: usize) -> Password
 }
 
 pub fn put_password(s: &mut [u8], at: usize, p: Password)
-    requires { at + passwordSize ≤ length s.old }
+    requires { at + password_size ≤ length s.old }
     ensures { (s.new ≡ lay s.old at (password.put p)) × password.fits p }
 {
     put_word(s, at, p.word);
@@ -33,7 +33,7 @@ pub fn put_password(s: &mut [u8], at: usize, p: Password)
 
 // The entries of a registration.
 pub fn entries_at(s: &[u8], at: usize) -> [u16; 4]
-    requires { at + entriesSize ≤ length s.now }
+    requires { at + entries_size ≤ length s.now }
     ensures { result ≡ entries.get (drop at s.now) }
 {
     [
@@ -45,7 +45,7 @@ pub fn entries_at(s: &[u8], at: usize) -> [u16; 4]
 }
 
 pub fn put_entries(s: &mut [u8], at: usize, v: [u16; 4])
-    requires { at + entriesSize ≤ length s.old }
+    requires { at + entries_size ≤ length s.old }
     ensures { (s.new ≡ lay s.old at (entries.put v)) × entries.fits v }
 {
     let mut i = 0;
@@ -57,7 +57,7 @@ pub fn put_entries(s: &mut [u8], at: usize, v: [u16; 4])
 
 // A registration: its password, its list, the number of its entries, and the entries.
 pub fn registration_at(s: &[u8], at: usize) -> Registration
-    requires { at + registrationSize ≤ length s.now }
+    requires { at + registration_size ≤ length s.now }
     ensures { result ≡ registration.get (drop at s.now) }
 {
     Registration {
@@ -69,7 +69,7 @@ pub fn registration_at(s: &[u8], at: usize) -> Registration
 }
 
 pub fn put_registration(s: &mut [u8], at: usize, g: Registration)
-    requires { at + registrationSize ≤ length s.old }
+    requires { at + registration_size ≤ length s.old }
     ensures { (s.new ≡ lay s.old at (registration.put g)) × registration.fits g }
 {
     put_word(s, at, g.password);
@@ -82,7 +82,7 @@ pub fn put_registration(s: &mut [u8], at: usize, g: Registration)
 
 // The ordinary passwords of an object.
 pub fn passwords_at(s: &[u8], at: usize) -> [Password; 4]
-    requires { at + passwordsSize ≤ length s.now }
+    requires { at + passwords_size ≤ length s.now }
     ensures { result ≡ passwords.get (drop at s.now) }
 {
     [
@@ -94,7 +94,7 @@ pub fn passwords_at(s: &[u8], at: usize) -> [Password; 4]
 }
 
 pub fn put_passwords(s: &mut [u8], at: usize, v: [Password; 4])
-    requires { at + passwordsSize ≤ length s.old }
+    requires { at + passwords_size ≤ length s.old }
     ensures { (s.new ≡ lay s.old at (passwords.put v)) × passwords.fits v }
 {
     let mut i = 0;
@@ -106,7 +106,7 @@ pub fn put_passwords(s: &mut [u8], at: usize, v: [Password; 4])
 
 // An object: its base, its pages, its passwords, its registration and its account.
 pub fn object_at(s: &[u8], at: usize) -> Object
-    requires { at + objectSize ≤ length s.now }
+    requires { at + object_size ≤ length s.now }
     ensures { result ≡ object.get (drop at s.now) }
 {
     Object {
@@ -119,7 +119,7 @@ pub fn object_at(s: &[u8], at: usize) -> Object
 }
 
 pub fn put_object(s: &mut [u8], at: usize, o: Object)
-    requires { at + objectSize ≤ length s.old }
+    requires { at + object_size ≤ length s.old }
     ensures { (s.new ≡ lay s.old at (object.put o)) × object.fits o }
 {
     put_byte(s, at, o.base);
@@ -133,7 +133,7 @@ pub fn put_object(s: &mut [u8], at: usize, o: Object)
 
 // The objects of an estate.
 pub fn objects_at(s: &[u8], at: usize) -> [Object; 8]
-    requires { at + estateSize ≤ length s.now }
+    requires { at + estate_size ≤ length s.now }
     ensures { result ≡ objects.get (drop at s.now) }
 {
     [
@@ -149,7 +149,7 @@ pub fn objects_at(s: &[u8], at: usize) -> [Object; 8]
 }
 
 pub fn put_objects(s: &mut [u8], at: usize, v: [Object; 8])
-    requires { at + estateSize ≤ length s.old }
+    requires { at + estate_size ≤ length s.old }
     ensures { (s.new ≡ lay s.old at (objects.put v)) × objects.fits v }
 {
     let mut i = 0;
@@ -161,7 +161,7 @@ pub fn put_objects(s: &mut [u8], at: usize, v: [Object; 8])
 
 // An estate.
 pub fn estate_at(s: &[u8], at: usize) -> Estate
-    requires { at + estateSize ≤ length s.now }
+    requires { at + estate_size ≤ length s.now }
     ensures { result ≡ estate.get (drop at s.now) }
 {
     Estate {
@@ -170,7 +170,7 @@ pub fn estate_at(s: &[u8], at: usize) -> Estate
 }
 
 pub fn put_estate(s: &mut [u8], at: usize, e: Estate)
-    requires { at + estateSize ≤ length s.old }
+    requires { at + estate_size ≤ length s.old }
     ensures { (s.new ≡ lay s.old at (estate.put e)) × estate.fits e }
 {
     let objects = e.objects;
@@ -179,7 +179,7 @@ pub fn put_estate(s: &mut [u8], at: usize, e: Estate)
 
 // The estates.
 pub fn estates_at(s: &[u8], at: usize) -> [Estate; 4]
-    requires { at + tableSize ≤ length s.now }
+    requires { at + table_size ≤ length s.now }
     ensures { result ≡ estates.get (drop at s.now) }
 {
     [
@@ -191,7 +191,7 @@ pub fn estates_at(s: &[u8], at: usize) -> [Estate; 4]
 }
 
 pub fn put_estates(s: &mut [u8], at: usize, v: [Estate; 4])
-    requires { at + tableSize ≤ length s.old }
+    requires { at + table_size ≤ length s.old }
     ensures { (s.new ≡ lay s.old at (estates.put v)) × estates.fits v }
 {
     let mut i = 0;
@@ -203,7 +203,7 @@ pub fn put_estates(s: &mut [u8], at: usize, v: [Estate; 4])
 
 // The object table.
 pub fn table_at(s: &[u8], at: usize) -> Table
-    requires { at + tableSize ≤ length s.now }
+    requires { at + table_size ≤ length s.now }
     ensures { result ≡ table.get (drop at s.now) }
 {
     Table {
@@ -212,7 +212,7 @@ pub fn table_at(s: &[u8], at: usize) -> Table
 }
 
 pub fn put_table(s: &mut [u8], at: usize, t: Table)
-    requires { at + tableSize ≤ length s.old }
+    requires { at + table_size ≤ length s.old }
     ensures { (s.new ≡ lay s.old at (table.put t)) × table.fits t }
 {
     let estates = t.estates;

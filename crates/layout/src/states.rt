@@ -1,7 +1,7 @@
 // A state read off a slice of bytes, and written over one.
 ghost use Rattle.std.specs.Prelude.{◌≡◌, length};
-ghost use Rattle.layout.specs.Sizes.{stateSize};
-ghost use Rattle.layout.specs.Whole.{state_of, truthsOk, withState};
+ghost use Rattle.layout.specs.Sizes.{state_size};
+ghost use Rattle.layout.specs.Whole.{state_of, truths_ok, with_state};
 
 use crate::accounts::{accounts_at, put_accounts};
 use crate::frames::{domains_at, domains_ok, put_domains};
@@ -26,7 +26,7 @@ pub fn state_of(bytes: &[u8]) -> State
 
 // Whether a slice has the length, and every yes or no in it is 1 or 0.
 pub fn truths_ok(bytes: &[u8]) -> bool
-    ensures { result ≡ truthsOk bytes.now }
+    ensures { result ≡ truths_ok bytes.now }
 {
     if bytes.len() != STATE {
         return false;
@@ -36,8 +36,8 @@ pub fn truths_ok(bytes: &[u8]) -> bool
 
 // A state written over a slice of its length, which reads as that state then. Another slice is not touched.
 pub fn put_state(bytes: &mut [u8], s: State)
-    ensures bytes_after { bytes.new ≡ withState bytes.old s }
-    ensures bytes_after_2 { length bytes.old ≡ stateSize → state_of bytes.new ≡ s }
+    ensures bytes_after { bytes.new ≡ with_state bytes.old s }
+    ensures bytes_after_2 { length bytes.old ≡ state_size → state_of bytes.new ≡ s }
 {
     if bytes.len() != STATE {
         return;

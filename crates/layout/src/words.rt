@@ -1,12 +1,12 @@
 // Words of 8 bytes in a slice, one behind the other.
 ghost use Rattle.std.specs.Prelude.{◌≡◌};
-ghost use Rattle.layout.specs.Whole.{wordsRead, wordsPut};
+ghost use Rattle.layout.specs.Whole.{words_read, words_put};
 
 use crate::numbers::{put_word, word_at};
 
 // As many words as there are places, where there are bytes for all of them; else they stay.
 pub fn read_words(words: &mut [u64], bytes: &[u8])
-    ensures { words.new ≡ wordsRead words.old bytes.now }
+    ensures { words.new ≡ words_read words.old bytes.now }
 {
     let n = words.len();
     if bytes.len() / 8 < n {
@@ -21,7 +21,7 @@ pub fn read_words(words: &mut [u64], bytes: &[u8])
 
 // The words of the run up to `to`, each at its place, where both slices reach so far; else nothing is written.
 pub fn put_words(bytes: &mut [u8], words: &[u64], from: usize, to: usize)
-    ensures { bytes.new ≡ wordsPut bytes.old words.now from to }
+    ensures { bytes.new ≡ words_put bytes.old words.now from to }
 {
     if bytes.len() / 8 < to {
         return;

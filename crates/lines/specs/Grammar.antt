@@ -1,7 +1,7 @@
 -- A line of the call program: document 01, "The call program" and "The calls".
 use Rattle.std.specs.Prelude.{ℕ, ◌-◌, cond, List, [], ◌∷◌, leb, ltb, eqb, length}
 use Rattle.std.proofs.Math.Option.{Option, none, some}
-use Rattle.calls.specs.Boot.{bootNumbers}
+use Rattle.calls.specs.Boot.{boot_numbers}
 use Rattle.calls.specs.declared.Call.{Call}
 use Rattle.calls.specs.declared.Call.TheVariants.{OnStore, OnObject, OnDomain}
 use Rattle.calls.specs.declared.Access.TheVariants.{Read, Write, Execute, Lookup}
@@ -18,13 +18,13 @@ use Rattle.lines.specs.declared.Mnemonic.TheVariants.{Rd, Wr, Ex, Lk, Cr, Dl, Ap
 use Rattle.lines.specs.declared.Eight.{Eight}
 use Rattle.lines.specs.Number.{field_of}
 use Rattle.lines.specs.Split.{split}
-use Rattle.lines.specs.Letters.{lettersOf}
-use Rattle.lines.specs.Arguments.{numbersOf, eightOf}
-use Rattle.lines.specs.Reading.{Reading, unreadable, bootBy, call_by}
+use Rattle.lines.specs.Letters.{letters_of}
+use Rattle.lines.specs.Arguments.{numbers_of, eight_of}
+use Rattle.lines.specs.Reading.{Reading, unreadable, boot_by, call_by}
 
 -- the longest line has so many bytes before its line feed; the code's `LINE_BYTES`
-abbrev pub lineBytes : ℕ
-lineBytes = 200
+abbrev pub line_bytes : ℕ
+line_bytes = 200
 
 -- a call that has as many arguments as it takes
 abbrev pub exactly : ℕ → ℕ → ℕ → Call → Reading
@@ -35,12 +35,12 @@ abbrev pub at_least : ℕ → ℕ → ℕ → Call → Reading
 at_least d count n c = cond (leb n count) (call_by d c) unreadable
 
 -- a boot takes exactly its numbers
-abbrev pub bootOf : ℕ → List ℕ → Reading
-bootOf d vs = cond (eqb (length vs) bootNumbers) (bootBy d vs) unreadable
+abbrev pub boot_of : ℕ → List ℕ → Reading
+boot_of d vs = cond (eqb (length vs) boot_numbers) (boot_by d vs) unreadable
 
 -- RG with n arguments: behind the first four, any number of entries, of which the first four are kept
-abbrev pub registerOf : ℕ → Eight → ObjectCall
-registerOf n x =
+abbrev pub register_of : ℕ → Eight → ObjectCall
+register_of n x =
     Register x.0 x.1 (record { page = x.2; password = x.3 })
     (record { count = n - 4; first = x.4; second = x.5; third = x.6; fourth = x.7 })
 
@@ -54,7 +54,7 @@ call_of d Cr n x = exactly d n 4 (OnObject (Create x.0 x.1 x.2 x.3))
 call_of d Dl n x = exactly d n 1 (OnObject (Delete x.0))
 call_of d Ap n x = exactly d n 3 (OnObject (AddPassword x.0 x.1 x.2))
 call_of d Dp n x = exactly d n 2 (OnObject (DropPassword x.0 x.1))
-call_of d Rg n x = at_least d n 4 (OnObject (registerOf n x))
+call_of d Rg n x = at_least d n 4 (OnObject (register_of n x))
 call_of d In n x = exactly d n 3 (OnDomain (Insert x.0 (record { page = x.1; password = x.2 })))
 call_of d Rm n x = exactly d n 1 (OnDomain (Remove x.0))
 call_of d Gt n x = exactly d n 0 (OnDomain Get)
@@ -63,18 +63,18 @@ call_of d Ca n x = exactly d n 2 (OnDomain (PdxCall x.0 x.1))
 call_of d Rt n x = exactly d n 0 (OnDomain PdxReturn)
 
 -- domain, call letters, arguments: the letters are known, and each other field is a number
-abbrev pub withArguments : ℕ → Letters → Option (List ℕ) → Reading
-withArguments d l none = unreadable
-withArguments d Unknown (some vs) = unreadable
-withArguments d (Known named.Boot) (some vs) = bootOf d vs
-withArguments d (Known (named.Call m)) (some vs) = call_of d m (length vs) (eightOf vs)
+abbrev pub with_arguments : ℕ → Letters → Option (List ℕ) → Reading
+with_arguments d l none = unreadable
+with_arguments d Unknown (some vs) = unreadable
+with_arguments d (Known named.Boot) (some vs) = boot_of d vs
+with_arguments d (Known (named.Call m)) (some vs) = call_of d m (length vs) (eight_of vs)
 
-abbrev pub lineWith : Field → List (List ℕ) → Reading
-lineWith (Number d) (l ∷ fs) = withArguments d (lettersOf l) (numbersOf fs)
-lineWith (Number d) [] = unreadable
-lineWith Empty fs = unreadable
-lineWith Bad fs = unreadable
+abbrev pub line_with : Field → List (List ℕ) → Reading
+line_with (Number d) (l ∷ fs) = with_arguments d (letters_of l) (numbers_of fs)
+line_with (Number d) [] = unreadable
+line_with Empty fs = unreadable
+line_with Bad fs = unreadable
 
 -- a line, the bytes before its line feed: not too many, split at the commas
 unfoldable pub line_of : List ℕ → Reading
-line_of s = cond (ltb lineBytes (length s)) unreadable (lineWith (field_of (split s).first) (split s).others)
+line_of s = cond (ltb line_bytes (length s)) unreadable (line_with (field_of (split s).first) (split s).others)

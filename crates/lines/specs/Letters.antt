@@ -7,16 +7,16 @@ use Rattle.lines.specs.declared.Named.TheVariants.{Boot, Call}
 use Rattle.lines.specs.declared.Mnemonic.TheVariants.{Rd, Wr, Ex, Lk, Cr, Dl, Ap, Dp, Rg, In, Rm, Gt, Lo, Ca, Rt}
 
 -- two letters as one number
-abbrev pub lettersPair : ℕ → ℕ → ℕ
-lettersPair a b = a * 256 + b
+abbrev pub letters_pair : ℕ → ℕ → ℕ
+letters_pair a b = a * 256 + b
 
 -- other bytes give another number
-pub pair_same : (a b c d : ℕ) → b < 256 → d < 256 → lettersPair a b ≡ lettersPair c d → (a ≡ c) × (b ≡ d)
+pub pair_same : (a b c d : ℕ) → b < 256 → d < 256 → letters_pair a b ≡ letters_pair c d → (a ≡ c) × (b ≡ d)
 pair_same a b c d h k e = (omega arith, omega arith)
 
 -- the letters of each call in ASCII, two as one number
-unfoldable pub mnemonicOf : ℕ → Letters
-mnemonicOf letters =
+unfoldable pub mnemonic_of : ℕ → Letters
+mnemonic_of letters =
     cond (eqb letters 0x4254) (Known Boot)
     (cond (eqb letters 0x5244) (Known (Call Rd))
     (cond (eqb letters 0x5752) (Known (Call Wr))
@@ -36,5 +36,5 @@ mnemonicOf letters =
     Unknown)))))))))))))))
 
 -- the field of the letters has two of them
-abbrev pub lettersOf : List ℕ → Letters
-lettersOf l = cond (eqb (length l) 2) (mnemonicOf (lettersPair (get_or l 0 0) (get_or l 1 0))) Unknown
+abbrev pub letters_of : List ℕ → Letters
+letters_of l = cond (eqb (length l) 2) (mnemonic_of (letters_pair (get_or l 0 0) (get_or l 1 0))) Unknown

@@ -5,22 +5,22 @@ use Rattle.lines.specs.declared.Field.{Field}
 use Rattle.lines.specs.declared.Field.TheVariants.{Empty, Number, Bad}
 
 -- the digits 0 to 9
-abbrev pub isDigit : ℕ → Bool
-isDigit b = leb 48 b && leb b 57
+abbrev pub is_digit : ℕ → Bool
+is_digit b = leb 48 b && leb b 57
 
 -- the number v goes on by the digit b: not after a lone zero, and not to 2^64
 abbrev pub grown : ℕ → ℕ → Field
 grown v b = cond (not (eqb v 0) && ltb (v * 10 + (b - 48)) (2 ^ 64)) (Number (v * 10 + (b - 48))) Bad
 
 -- a field that goes on by the digit b
-abbrev pub withDigit : Field → ℕ → Field
-withDigit Empty b = Number (b - 48)
-withDigit (Number v) b = grown v b
-withDigit Bad b = Bad
+abbrev pub with_digit : Field → ℕ → Field
+with_digit Empty b = Number (b - 48)
+with_digit (Number v) b = grown v b
+with_digit Bad b = Bad
 
 -- a field after one byte more
 abbrev pub after : Field → ℕ → Field
-after f b = cond (isDigit b) (withDigit f b) Bad
+after f b = cond (is_digit b) (with_digit f b) Bad
 
 -- the reading of a field, from its first byte to its last
 unfoldable pub field_of : List ℕ → Field

@@ -7,7 +7,7 @@ use Rattle.lines.specs.declared.Line.TheVariants as line
 -- the number that answers it at once, a boot by a domain with its numbers, or a call by a domain
 pub data Reading : Type 0 where
   answered : ℕ → Reading
-  bootBy : ℕ → List ℕ → Reading
+  boot_by : ℕ → List ℕ → Reading
   call_by : ℕ → Call → Reading
 
 -- a line that is not readable is answered by 1: document 01, "In checking order", 1
@@ -17,27 +17,27 @@ unreadable = answered 1
 -- a line of the code, beside the numbers of its plan
 abbrev pub reads : Line → List ℕ → Reading
 reads (line.Answered n) plan = answered n
-reads (line.Boot d) plan = bootBy d plan
+reads (line.Boot d) plan = boot_by d plan
 reads (line.Call d c) plan = call_by d c
 
 -- the plan behind a line: the numbers of a boot, and as it was behind any other line
-abbrev pub planAfter : Reading → List ℕ → List ℕ
-planAfter (answered n) plan = plan
-planAfter (bootBy d numbers) plan = numbers
-planAfter (call_by d c) plan = plan
+abbrev pub plan_after : Reading → List ℕ → List ℕ
+plan_after (answered n) plan = plan
+plan_after (boot_by d numbers) plan = numbers
+plan_after (call_by d c) plan = plan
 
 -- a line of the code, with its plan before and after, is this reading
 abbrev pub ReadAs : Line → List ℕ → List ℕ → Reading → Type 0
-ReadAs l before plan r = (reads l plan ≡ r) × (plan ≡ planAfter r before)
+ReadAs l before plan r = (reads l plan ≡ r) × (plan ≡ plan_after r before)
 
 -- a line with the plan as it was, and a boot whose numbers are put there
-pub plan-kept : (l : Line) (plan : List ℕ) {r : Reading} → reads l plan ≡ r → ReadAs l plan plan r
-plan-kept (line.Answered n) plan e = (e, rw (← e))
-plan-kept (line.Boot d) plan e = (e, rw (← e))
-plan-kept (line.Call d c) plan e = (e, rw (← e))
+pub plan_kept : (l : Line) (plan : List ℕ) {r : Reading} → reads l plan ≡ r → ReadAs l plan plan r
+plan_kept (line.Answered n) plan e = (e, rw (← e))
+plan_kept (line.Boot d) plan e = (e, rw (← e))
+plan_kept (line.Call d c) plan e = (e, rw (← e))
 
-pub plan-filled : (d : ℕ) (before : List ℕ) {plan : List ℕ} {r : Reading} → bootBy d plan ≡ r → ReadAs (line.Boot d) before plan r
-plan-filled d before e = (e, rw (← e))
+pub plan_filled : (d : ℕ) (before : List ℕ) {plan : List ℕ} {r : Reading} → boot_by d plan ≡ r → ReadAs (line.Boot d) before plan r
+plan_filled d before e = (e, rw (← e))
 
 -- whatever the plan holds
 abbrev pub Whatever : Line → Reading → Type 0

@@ -7,12 +7,12 @@ pub record Split : Type 0 where
   pub others : List (List ℕ)
 
 -- a comma ends an empty field; another byte belongs to the first field
-abbrev pub fieldEnds : Split → Split
-fieldEnds f = record { first = []; others = f.first ∷ f.others }
+abbrev pub field_ends : Split → Split
+field_ends f = record { first = []; others = f.first ∷ f.others }
 
 abbrev pub onto : ℕ → Split → Split
 onto b f = record { first = b ∷ f.first; others = f.others }
 
 unfoldable pub split : List ℕ → Split
 split [] = record { first = []; others = [] }
-split (b ∷ s) = cond (eqb b 44) (fieldEnds (split s)) (onto b (split s))
+split (b ∷ s) = cond (eqb b 44) (field_ends (split s)) (onto b (split s))

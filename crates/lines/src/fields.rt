@@ -1,7 +1,7 @@
 // The fields of a line: where they end, and what they hold.
 ghost use Rattle.std.specs.Prelude.{◌≡◌, ◌+◌, ◌-◌, ◌<◌, ◌≤◌, length, drop, get_or};
-ghost use Rattle.lines.specs.Letters.{lettersPair, mnemonicOf, lettersOf};
-ghost use Rattle.lines.specs.Number.{after as Number·after, grown as Number·grown, field_of};
+ghost use Rattle.lines.specs.Letters.{letters_pair, mnemonic_of, letters_of};
+ghost use Rattle.lines.specs.Number.{after, grown, field_of};
 ghost use Rattle.lines.specs.Until.{until};
 
 use crate::{Field, Letters, Mnemonic, Named};
@@ -9,7 +9,7 @@ use crate::{Field, Letters, Mnemonic, Named};
 // The number v with one digit more.
 fn grown(v: u64, b: u8) -> Field
     requires { (48 ≤ b) × (b ≤ 57) }
-    ensures { result ≡ Number·grown v b }
+    ensures { result ≡ grown v b }
 {
     let d = (b - 48) as u64;
     if v == 0 {
@@ -23,7 +23,7 @@ fn grown(v: u64, b: u8) -> Field
 
 // A field after one byte more.
 fn after(f: Field, b: u8) -> Field
-    ensures { result ≡ Number·after f b }
+    ensures { result ≡ after f b }
 {
     if b < 48 {
         return Field::Bad;
@@ -93,14 +93,14 @@ pub fn number(s: &[u8]) -> Field
 }
 
 fn pair(a: u8, b: u8) -> u64
-    ensures { result ≡ lettersPair a b }
+    ensures { result ≡ letters_pair a b }
 {
     a as u64 * 256 + b as u64
 }
 
 // The letters of each call in ASCII, two as one number.
 fn mnemonic_of(letters: u64) -> Letters
-    ensures { result ≡ mnemonicOf letters }
+    ensures { result ≡ mnemonic_of letters }
 {
     match letters {
         0x4254 => return Letters::Known(Named::Boot),
@@ -125,7 +125,7 @@ fn mnemonic_of(letters: u64) -> Letters
 
 // The field of the call letters.
 pub fn letters_of(s: &[u8]) -> Letters
-    ensures { result ≡ lettersOf s.now }
+    ensures { result ≡ letters_of s.now }
 {
     if s.len() != 2 {
         return Letters::Unknown;

@@ -5,7 +5,7 @@ ghost use Rattle.calls.specs.declared.Access.TheVariants.{Write, Lookup};
 ghost use Rattle.calls.specs.declared.ObjectCall.TheVariants.{Create, AddPassword, DropPassword};
 ghost use Rattle.calls.specs.declared.DomainCall.TheVariants.{Insert, PdxCall};
 ghost use Rattle.lines.specs.Reading.{Whatever};
-ghost use Rattle.lines.specs.Grammar.{exactly as Grammar·exactly, at_least, registerOf, call_of};
+ghost use Rattle.lines.specs.Grammar.{exactly, at_least, register_of, call_of};
 
 use crate::{Eight, Line, Mnemonic};
 use calls::{Access, Call, DomainCall, Entries, ObjectCall, Presented};
@@ -67,7 +67,7 @@ fn insert(slot: u64, page: u64, password: u64) -> DomainCall
 
 // A call that has as many arguments as it takes.
 fn exactly(domain: u64, count: usize, n: usize, call: Call) -> Line
-    ensures { Whatever result (Grammar·exactly domain count n call) }
+    ensures { Whatever result (exactly domain count n call) }
 {
     if count == n {
         return Line::Call { domain, call };
@@ -77,21 +77,21 @@ fn exactly(domain: u64, count: usize, n: usize, call: Call) -> Line
 
 // An access that has as many arguments as it takes.
 fn on_store(domain: u64, count: usize, n: usize, call: Access) -> Line
-    ensures { Whatever result (Grammar·exactly domain count n (OnStore call)) }
+    ensures { Whatever result (exactly domain count n (OnStore call)) }
 {
     exactly(domain, count, n, Call::OnStore(call))
 }
 
 // A call on objects that has as many arguments as it takes.
 fn on_object(domain: u64, count: usize, n: usize, call: ObjectCall) -> Line
-    ensures { Whatever result (Grammar·exactly domain count n (OnObject call)) }
+    ensures { Whatever result (exactly domain count n (OnObject call)) }
 {
     exactly(domain, count, n, Call::OnObject(call))
 }
 
 // A call on the caller's domain that has as many arguments as it takes.
 fn on_domain(domain: u64, count: usize, n: usize, call: DomainCall) -> Line
-    ensures { Whatever result (Grammar·exactly domain count n (OnDomain call)) }
+    ensures { Whatever result (exactly domain count n (OnDomain call)) }
 {
     exactly(domain, count, n, Call::OnDomain(call))
 }
@@ -121,7 +121,7 @@ fn entry_count(n: usize) -> u64
 
 // RG with n arguments: any number of entries, of which the first four are kept.
 fn register(n: usize, x: Eight) -> ObjectCall
-    ensures { result ≡ registerOf n x }
+    ensures { result ≡ register_of n x }
 {
     ObjectCall::Register {
         base: x.0,

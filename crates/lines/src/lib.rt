@@ -1,13 +1,13 @@
 // Reading a line of the call program.
 ghost use Rattle.std.specs.Prelude.{◌≡◌, length};
-ghost use Rattle.calls.specs.Boot.{bootNumbers};
+ghost use Rattle.calls.specs.Boot.{boot_numbers};
 ghost use Rattle.lines.specs.declared.Letters.TheVariants.{Known};
 ghost use Rattle.lines.specs.declared.Named.TheVariants.{Boot, Call as Named-as-Call};
-ghost use Rattle.lines.specs.Arguments.{numbersOf, eightOf};
+ghost use Rattle.lines.specs.Arguments.{numbers_of, eight_of};
 ghost use Rattle.lines.specs.Cut.{behind};
 ghost use Rattle.lines.specs.Reading.{ReadAs, Whatever};
-ghost use Rattle.lines.specs.Keeping.{with_number, argumentsOf};
-ghost use Rattle.lines.specs.Grammar.{withArguments, line_of};
+ghost use Rattle.lines.specs.Keeping.{with_number, arguments_of};
+ghost use Rattle.lines.specs.Grammar.{with_arguments, line_of};
 
 use calls::{BOOT_NUMBERS, Call};
 use fields::letters_of;
@@ -91,14 +91,14 @@ fn keep(values: &mut [u64; 8], n: usize, v: u64)
 }
 
 fn eight_of(v: [u64; 8]) -> Eight
-    ensures { result ≡ eightOf v }
+    ensures { result ≡ eight_of v }
 {
     Eight(v[0], v[1], v[2], v[3], v[4], v[5], v[6], v[7])
 }
 
 // The arguments in the text behind the call letters: nothing, or a comma and a number for each.
 fn read_arguments(t: &[u8]) -> Arguments
-    ensures { result ≡ argumentsOf t.now }
+    ensures { result ≡ arguments_of t.now }
 {
     let mut values = [0u64; 8];
     let mut n = 0;
@@ -117,7 +117,7 @@ fn read_arguments(t: &[u8]) -> Arguments
 
 // A call of these letters, with the arguments in the text t.
 fn read_call(domain: u64, mnemonic: Mnemonic, t: &[u8]) -> Line
-    ensures { Whatever result (withArguments domain (Known (Named-as-Call mnemonic)) (numbersOf (behind t.now))) }
+    ensures { Whatever result (with_arguments domain (Known (Named-as-Call mnemonic)) (numbers_of (behind t.now))) }
 {
     let arguments = read_arguments(t);
     match arguments {
@@ -134,8 +134,8 @@ fn read_boot(
     numbers: &mut [u64; BOOT_NUMBERS],
     plan: &mut [u64; BOOT_NUMBERS],
 ) -> Line
-    requires { length numbers.old ≡ bootNumbers }
-    ensures { ReadAs result plan.old plan.new (withArguments domain (Known Boot) (numbersOf (behind t.now))) }
+    requires { length numbers.old ≡ boot_numbers }
+    ensures { ReadAs result plan.old plan.new (with_arguments domain (Known Boot) (numbers_of (behind t.now))) }
 {
     let mut n = 0;
     let mut at = 0;

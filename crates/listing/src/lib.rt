@@ -1,7 +1,7 @@
 // The objects of the object table as text.
 ghost use Rattle.std.specs.Prelude.{◌≡◌, ◌+◌, ◌≤◌, length, take, drop, replicate};
 ghost use Rattle.text.specs.Puts.{Put};
-ghost use Rattle.listing.specs.Lines.{oneFor, passwordCount, objectLine, placeLine, estateLines, listing};
+ghost use Rattle.listing.specs.Lines.{one_for, password_count, object_line, place_line, estate_lines, listing};
 
 use state::{Estate, Object, Table};
 use text::put_line;
@@ -15,7 +15,7 @@ pub struct Text {
 
 // 1 for a password, 0 for the word 0, which is none.
 fn one_for(word: u64) -> u8
-    ensures { result ≡ oneFor word }
+    ensures { result ≡ one_for word }
 {
     if word == 0 {
         return 0;
@@ -25,7 +25,7 @@ fn one_for(word: u64) -> u8
 
 // How many ordinary passwords an object has.
 fn password_count(o: Object) -> u64
-    ensures { result ≡ passwordCount o }
+    ensures { result ≡ password_count o }
 {
     let p = o.passwords[0];
     let q = o.passwords[1];
@@ -40,7 +40,7 @@ fn password_count(o: Object) -> u64
 // Puts the line of an object, and answers where it ends.
 fn put_object(out: &mut [u8], at: usize, o: Object) -> usize
     requires { at + 105 ≤ length out.old }
-    ensures { Put out.old at (objectLine o) out.new result × (result ≤ at + 105) }
+    ensures { Put out.old at (object_line o) out.new result × (result ≤ at + 105) }
 {
     let g = o.registration;
     let fields = [
@@ -54,7 +54,7 @@ fn put_object(out: &mut [u8], at: usize, o: Object) -> usize
 // The same of a place, where an object stands there.
 fn put_place(out: &mut [u8], at: usize, o: Object) -> usize
     requires { at + 105 ≤ length out.old }
-    ensures { Put out.old at (placeLine o) out.new result × (result ≤ at + 105) }
+    ensures { Put out.old at (place_line o) out.new result × (result ≤ at + 105) }
 {
     if o.pages == 0 {
         return at;
@@ -65,7 +65,7 @@ fn put_place(out: &mut [u8], at: usize, o: Object) -> usize
 // The places of an estate, 0 to 7.
 fn put_estate(out: &mut [u8], at: usize, e: Estate) -> usize
     requires { at + 840 ≤ length out.old }
-    ensures { Put out.old at (estateLines e) out.new result × (result ≤ at + 840) }
+    ensures { Put out.old at (estate_lines e) out.new result × (result ≤ at + 840) }
 {
     let mut m = at;
     let mut k = 0;

@@ -2,7 +2,7 @@
 // and does not read the table of `rights`.
 ghost use Rattle.std.specs.Prelude.{◌≡◌};
 ghost use Rattle.rights.specs.Modes.{legal};
-ghost use Rattle.modes.specs.Printed.{digitOf, printed};
+ghost use Rattle.modes.specs.Printed.{digit_of, printed};
 
 use libc::STDOUT_FILENO;
 
@@ -15,7 +15,7 @@ fn rule(mode: u64) -> bool
 
 // The digit of a mode, 1 or 0.
 fn digit(mode: u64) -> u8
-    ensures { result ≡ digitOf mode }
+    ensures { result ≡ digit_of mode }
 {
     if rule(mode) {
         return 49;

@@ -1,6 +1,6 @@
 // The call program: standard input to its end, the answers to standard output.
 ghost use Rattle.std.specs.Prelude.{◌≡◌, [], ◌≤◌, length, take};
-ghost use Rattle.stream.specs.Run.{lastLine};
+ghost use Rattle.stream.specs.Run.{last_line};
 ghost use Rattle.stream.specs.Feed.{standing};
 
 use stream::{Feed, finish, header};
@@ -10,7 +10,7 @@ use turns::transfer::write_text;
 // Puts the answer to the last line, where that has no line feed, and answers where it ends.
 fn put_last(f: Feed, out: &mut [u8]) -> usize
     requires { 273 ≤ length out.old }
-    ensures { (take result out.new ≡ lastLine (standing f [])) × (result ≤ length out.old) }
+    ensures { (take result out.new ≡ last_line (standing f [])) × (result ≤ length out.old) }
 {
     finish(f, out)
 }

@@ -1,12 +1,12 @@
 // Pages on account: the figure of an account, and the sets of accounts.
 ghost use Rattle.std.specs.Prelude.{◌≡◌};
-ghost use Rattle.state.specs.Pages.{pagesOn, estatePages, pagesOf, in_set};
+ghost use Rattle.state.specs.Pages.{pages_on, estate_pages, pages_of, in_set};
 
 use state::{Estate, Object, Table};
 
 // The pages that an object puts on an account.
 fn pages_on(o: Object, a: u64) -> u8
-    ensures { result ≡ pagesOn a o }
+    ensures { result ≡ pages_on a o }
 {
     if o.account as u64 == a {
         return o.pages;
@@ -16,7 +16,7 @@ fn pages_on(o: Object, a: u64) -> u8
 
 // The pages of an estate on an account.
 fn estate_pages(e: Estate, a: u64) -> u16
-    ensures { result ≡ estatePages a e }
+    ensures { result ≡ estate_pages a e }
 {
     let p = pages_on(e.objects[0], a) as u16;
     let q = p + pages_on(e.objects[1], a) as u16;
@@ -30,7 +30,7 @@ fn estate_pages(e: Estate, a: u64) -> u16
 
 // The figure of an account: the pages of all objects on it.
 pub fn pages_of(t: Table, a: u64) -> u32
-    ensures { result ≡ pagesOf t a }
+    ensures { result ≡ pages_of t a }
 {
     let p = estate_pages(t.estates[0], a) as u32;
     let q = p + estate_pages(t.estates[1], a) as u32;

@@ -2,7 +2,7 @@
 ghost use Rattle.std.specs.Prelude.{◌≡◌, not, ◌||◌, List, ℕ, ◌<◌, leb, ltb, eqb, length};
 ghost use Rattle.state.specs.Places.{entry_at};
 ghost use Rattle.state.specs.declared.Table.{Table as Objects};
-ghost use Rattle.calls.specs.Arguments.{isEntry};
+ghost use Rattle.calls.specs.Arguments.{is_entry};
 ghost use Rattle.calls.specs.Changes.{entered};
 ghost use Rattle.calls.specs.Parts.{Moves};
 ghost use Rattle.calls.specs.declared.DomainCall.TheVariants.{PdxCall, PdxReturn};
@@ -28,7 +28,7 @@ fn entry_other(o: Object, address: u64, k: usize) -> bool
 
 // Whether the address is a registered entry of the object.
 fn is_entry(o: Object, address: u64) -> bool
-    ensures { result ≡ isEntry o address }
+    ensures { result ≡ is_entry o address }
 {
     !(entry_other(o, address, 0)
         & entry_other(o, address, 1)

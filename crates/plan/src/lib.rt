@@ -1,14 +1,14 @@
 // Whether the numbers of a boot are in range.
 ghost use Rattle.std.specs.Prelude.{cond, ◌&&◌, ◌≡◌, leb, ltb, eqb};
 ghost use Rattle.state.specs.Pages.{in_set};
-ghost use Rattle.calls.specs.Boot.{homesOk, limitsOk, setsOk, homePages, roomOk, planOk};
+ghost use Rattle.calls.specs.Boot.{homes_ok, limits_ok, sets_ok, home_pages, room_ok, plan_ok};
 
 use calls::BOOT_NUMBERS;
 use pages::in_set;
 
 // Whether no home password is 0.
 fn homes_ok(plan: [u64; BOOT_NUMBERS]) -> bool
-    ensures { result ≡ homesOk plan }
+    ensures { result ≡ homes_ok plan }
 {
     (plan[0] != 0) & (plan[1] != 0) & (plan[2] != 0) & (plan[3] != 0)
 }
@@ -22,7 +22,7 @@ fn limit_ok(n: u64) -> bool
 
 // Whether each limit is.
 fn limits_ok(plan: [u64; BOOT_NUMBERS]) -> bool
-    ensures { result ≡ limitsOk plan }
+    ensures { result ≡ limits_ok plan }
 {
     limit_ok(plan[4]) & limit_ok(plan[5]) & limit_ok(plan[6]) & limit_ok(plan[7])
 }
@@ -39,7 +39,7 @@ fn set_ok(account: u64, set: u64) -> bool
 
 // Whether each domain has a set, with its home account in it.
 fn sets_ok(plan: [u64; BOOT_NUMBERS]) -> bool
-    ensures { result ≡ setsOk plan }
+    ensures { result ≡ sets_ok plan }
 {
     set_ok(plan[8], plan[9])
         & set_ok(plan[10], plan[11])
@@ -59,7 +59,7 @@ fn home_page(account: u64, a: u64) -> u8
 
 // The home pages on an account.
 fn home_pages(plan: [u64; BOOT_NUMBERS], a: u64) -> u64
-    ensures { result ≡ homePages plan a }
+    ensures { result ≡ home_pages plan a }
 {
     let p = home_page(plan[8], a) as u64;
     let q = p + home_page(plan[10], a) as u64;
@@ -69,7 +69,7 @@ fn home_pages(plan: [u64; BOOT_NUMBERS], a: u64) -> u64
 
 // Whether each limit has room for the home pages.
 fn room_ok(plan: [u64; BOOT_NUMBERS]) -> bool
-    ensures { result ≡ roomOk plan }
+    ensures { result ≡ room_ok plan }
 {
     (home_pages(plan, 0) <= plan[4])
         & (home_pages(plan, 1) <= plan[5])
@@ -79,7 +79,7 @@ fn room_ok(plan: [u64; BOOT_NUMBERS]) -> bool
 
 // Whether all numbers are in range.
 pub fn plan_ok(plan: [u64; BOOT_NUMBERS]) -> bool
-    ensures { result ≡ planOk plan }
+    ensures { result ≡ plan_ok plan }
 {
     homes_ok(plan) & limits_ok(plan) & sets_ok(plan) & room_ok(plan)
 }

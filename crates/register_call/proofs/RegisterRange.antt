@@ -5,7 +5,7 @@ use mathlib.Core.Bool.{true, not, ◌&&◌}
 use lib.Dec.{leb, ltb, eqb}
 use borrow.Author.Tests.{leb-true, ltb-true}
 use Rattle.bounded.specs.Bools.{and_left, and_right}
-use Rattle.calls.specs.Arguments.{entriesAll}
+use Rattle.calls.specs.Arguments.{entries_all}
 use Rattle.calls.specs.Rules.{in_range}
 use Rattle.calls.specs.declared.Call.TheVariants.{OnObject}
 use Rattle.calls.specs.declared.ObjectCall.TheVariants.{Register}
@@ -16,11 +16,11 @@ pub record RegisterRange (b : ℕ) (l : Presented) (es : Entries) : Type 0 where
   pub base : b < 128
   pub page : l.page < 128
   pub count : es.count ≤ 4
-  pub entries : entriesAll (λ a. ltb a 8192) es ≡ true
+  pub entries : entries_all (λ a. ltb a 8192) es ≡ true
 
-pub register-range : (b k : ℕ) (l : Presented) (es : Entries) → in_range (OnObject (Register b k l es)) ≡ true → RegisterRange b l es
+pub register_range : (b k : ℕ) (l : Presented) (es : Entries) → in_range (OnObject (Register b k l es)) ≡ true → RegisterRange b l es
 unfolding in_range
-register-range b k l es h =
+register_range b k l es h =
     let owner = ltb b 128 && not (eqb k 0) in
     let list = owner && ltb l.page 128 in
     let some = list && ltb 0 es.count in

@@ -2,7 +2,7 @@
 ghost use Rattle.std.specs.Prelude.{◌≡◌, ℕ, ◌/◌, ◌<◌, ◌≤◌, true, cond, ◌||◌, leb, ltb};
 ghost use Rattle.state.specs.Extent.{covers};
 ghost use Rattle.state.specs.declared.Accounts.{Accounts as Limits};
-ghost use Rattle.calls.specs.Arguments.{entriesAll};
+ghost use Rattle.calls.specs.Arguments.{entries_all};
 ghost use Rattle.calls.specs.Changes.{capability, registration};
 ghost use Rattle.calls.specs.Rules.{in_range};
 ghost use Rattle.calls.specs.Parts.{Alters};
@@ -29,7 +29,7 @@ fn entry_in_store(count: u64, k: u64, entry: u64) -> bool
 
 // Whether the entries that stand are addresses of the store.
 fn entries_in_store(e: Entries) -> bool
-    ensures { result ≡ entriesAll (λ a. ltb a 8192) e }
+    ensures { result ≡ entries_all (λ a. ltb a 8192) e }
 {
     entry_in_store(e.count, 0, e.first)
         & entry_in_store(e.count, 1, e.second)
@@ -46,7 +46,7 @@ fn entry_inside(o: Object, count: u64, k: u64, entry: u64) -> bool
 
 // Whether the entries that stand are inside the object.
 fn entries_inside(o: Object, e: Entries) -> bool
-    ensures { result ≡ entriesAll (λ a. covers o (a / 64)) e }
+    ensures { result ≡ entries_all (λ a. covers o (a / 64)) e }
 {
     entry_inside(o, e.count, 0, e.first)
         & entry_inside(o, e.count, 1, e.second)
@@ -90,7 +90,7 @@ fn kept_entry(count: u64, k: u64, entry: u64) -> u16
 
 // The registration that RG asks for.
 fn registration(password: u64, l: Presented, e: Entries) -> Registration
-    requires { (l.page < 128) × (e.count ≤ 4) × (entriesAll (λ a. ltb a 8192) e ≡ true) }
+    requires { (l.page < 128) × (e.count ≤ 4) × (entries_all (λ a. ltb a 8192) e ≡ true) }
     ensures { result ≡ registration password l e }
 {
     Registration {

@@ -1,6 +1,6 @@
 // A boot, answered into the buffer.
 ghost use Rattle.calls.specs.Step.{world, unchecked};
-ghost use Rattle.lines.specs.Reading.{bootBy};
+ghost use Rattle.lines.specs.Reading.{boot_by};
 ghost use Rattle.replies.specs.Reply.{reply};
 ghost use Rattle.replies.specs.Told.{Told};
 
@@ -20,7 +20,7 @@ pub fn boot_line(
     out: &mut [u8],
     at: usize,
 ) -> NewState
-    ensures { Told number out.old at out.new result.at (world result.state store.new) (reply unchecked (world s store.old) (bootBy d plan)) }
+    ensures { Told number out.old at out.new result.at (world result.state store.new) (reply unchecked (world s store.old) (boot_by d plan)) }
 {
     let o = boot(store, d, plan);
     let answer = o.answer;

@@ -1,8 +1,8 @@
 // What a line asks for; and an access, and a call on objects, answered from the parts of the state that they read.
 ghost use Rattle.std.specs.Prelude.{◌≡◌};
-ghost use Rattle.calls.specs.Parts.{callerOf};
+ghost use Rattle.calls.specs.Parts.{caller_of};
 ghost use Rattle.calls.specs.declared.Caller.TheVariants.{Known as Caller-as-Known};
-ghost use Rattle.replies.specs.Kinds.{callKind, kind_of, accessTold, ObjectTold};
+ghost use Rattle.replies.specs.Kinds.{call_kind, kind_of, AccessTold, ObjectTold};
 
 use crate::{Kind, NewEstate};
 use access_calls::access;
@@ -15,7 +15,7 @@ use text::{answer_number, answer_value, put_line};
 
 // A call of a domain that is known.
 fn known_kind(d: usize, call: Call) -> Kind
-    ensures { result ≡ callKind (Caller-as-Known d) call }
+    ensures { result ≡ call_kind (Caller-as-Known d) call }
 {
     match call {
         Call::OnStore(c) => return Kind::Access(d, c),
@@ -26,7 +26,7 @@ fn known_kind(d: usize, call: Call) -> Kind
 
 // A call; refused by 2 or 4 where its caller is not known.
 fn call_kind(d: u64, call: Call, words: usize) -> Kind
-    ensures { result ≡ callKind (callerOf words d) call }
+    ensures { result ≡ call_kind (caller_of words d) call }
 {
     let caller = caller_of(words, d);
     match caller {
@@ -56,7 +56,7 @@ pub fn access_line(
     out: &mut [u8],
     at: usize,
 ) -> usize
-    ensures { accessTold t f call number store.old store.new out.old at out.new result }
+    ensures { AccessTold t f call number store.old store.new out.old at out.new result }
 {
     let a = access(t, store, f, call);
     put_line(out, at, number, answer_number(a), &[answer_value(a)])

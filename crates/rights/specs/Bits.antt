@@ -5,8 +5,8 @@ use Rattle.std.specs.Int.Bits.{bit_and, and_step, and_zero_r}
 use Rattle.std.proofs.lemmas.Nat.Bits.{and_high}
 use Rattle.std.proofs.Math.Arith.{bin_ind}
 use Rattle.std.proofs.lemmas.Bool.{eqb-false, not-true}
-use Rattle.bounded.specs.Bools.{flag, and_left, and_right, and_both, unless, or-unless}
-use Rattle.rights.specs.Modes.{holdsAll, holdsNone}
+use Rattle.bounded.specs.Bools.{flag, and_left, and_right, and_both, unless, or_unless}
+use Rattle.rights.specs.Modes.{holds_all, holds_none}
 
 -- bit `k` of a number: 0 R, 1 W, 2 X, 3 D, 4 P, 7 NOT
 unfoldable pub bit : ℕ → ℕ → ℕ
@@ -20,36 +20,36 @@ pub record Shares (m w : ℕ) : Type 0 where
   pub held : bit right m ≡ 1
 
 -- a bit is 0 or 1
-bit-lt : (k m : ℕ) → bit k m < 2
+bit_lt : (k m : ℕ) → bit k m < 2
 unfolding bit
-bit-lt ℕ.zero m = omega arith
-bit-lt (suc k) m = bit-lt k (m / 2)
+bit_lt ℕ.zero m = omega arith
+bit_lt (suc k) m = bit_lt k (m / 2)
 
-zero-or-one : (k m : ℕ) → (bit k m ≡ 0) ⊎ (bit k m ≡ 1)
-zero-or-one k m = by_value (bit k m) (bit-lt k m)
+zero_or_one : (k m : ℕ) → (bit k m ≡ 0) ⊎ (bit k m ≡ 1)
+zero_or_one k m = by_value (bit k m) (bit_lt k m)
   where
     by_value : (b : ℕ) → b < 2 → (b ≡ 0) ⊎ (b ≡ 1)
     by_value ℕ.zero l = inl refl
     by_value (suc ℕ.zero) l = inr refl
     by_value (suc (suc b)) l = absurd (omega arith)
 
-bit-zero : (k : ℕ) → bit k 0 ≡ 0
+bit_zero : (k : ℕ) → bit k 0 ≡ 0
 unfolding bit
-bit-zero ℕ.zero = refl
-bit-zero (suc k) = bit-zero k
+bit_zero ℕ.zero = refl
+bit_zero (suc k) = bit_zero k
 
 -- a bit is in both of two numbers: the lesser of their bits
-bit-and : (k a b : ℕ) → bit k (bit_and a b) ≡ min (bit k a) (bit k b)
+bit_and_lem : (k a b : ℕ) → bit k (bit_and a b) ≡ min (bit k a) (bit k b)
 unfolding bit
-bit-and ℕ.zero a b = rw (and_step a b) (omega arith)
-bit-and (suc k) a b =
+bit_and_lem ℕ.zero a b = rw (and_step a b) (omega arith)
+bit_and_lem (suc k) a b =
     let e : bit_and a b / 2 ≡ bit_and (a / 2) (b / 2) = rw (and_step a b) (omega arith) in
-    rw e (bit-and k (a / 2) (b / 2))
+    rw e (bit_and_lem k (a / 2) (b / 2))
 
 -- two numbers with the same bits are equal
-bit-ext : (a b : ℕ) → ((k : ℕ) → bit k a ≡ bit k b) → a ≡ b
+bit_ext : (a b : ℕ) → ((k : ℕ) → bit k a ≡ bit k b) → a ≡ b
 unfolding bit
-bit-ext a b h = go (a + b) a b (omega arith) h
+bit_ext a b h = go (a + b) a b (omega arith) h
   where
     go : (n a b : ℕ) → a + b ≤ n → ((k : ℕ) → bit k a ≡ bit k b) → a ≡ b
     go ℕ.zero a b l h = omega arith
@@ -59,21 +59,21 @@ bit-ext a b h = go (a + b) a b (omega arith) h
         omega arith
 
 -- a number above 0 has a bit that is 1
-some-bit : (n : ℕ) → (n ≡ 0 → ⊥) → (k : ℕ) × (bit k n ≡ 1)
+some_bit : (n : ℕ) → (n ≡ 0 → ⊥) → (k : ℕ) × (bit k n ≡ 1)
 unfolding bit
-some-bit = bin_ind (λ (n : ℕ). (n ≡ 0 → ⊥) → (k : ℕ) × (bit k n ≡ 1)) (λ h. absurd (h refl)) step
+some_bit = bin_ind (λ (n : ℕ). (n ≡ 0 → ⊥) → (k : ℕ) × (bit k n ≡ 1)) (λ h. absurd (h refl)) step
   where
     step : (n : ℕ) → ((n / 2 ≡ 0 → ⊥) → (k : ℕ) × (bit k (n / 2) ≡ 1)) → (n ≡ 0 → ⊥) → (k : ℕ) × (bit k n ≡ 1)
-    step n ih h = ⊎_elim (λ z. let r = ih (omega arith) in (suc r.0, r.1)) (λ o. (0, o)) (zero-or-one 0 n)
+    step n ih h = ⊎_elim (λ z. let r = ih (omega arith) in (suc r.0, r.1)) (λ o. (0, o)) (zero_or_one 0 n)
 
 -- the mode holds all of the set: each right of the set is in the mode
-pub all-exactly : (m w : ℕ) → holdsAll m w ≡ true ↔ ((k : ℕ) → bit k w ≡ 1 → bit k m ≡ 1)
-all-exactly m w = (each, λ h. eq-eqb _ _ (bit-ext _ _ (λ k. bit-and k m w ∙ same_bit h k (zero-or-one k w))))
+pub all_exactly : (m w : ℕ) → holds_all m w ≡ true ↔ ((k : ℕ) → bit k w ≡ 1 → bit k m ≡ 1)
+all_exactly m w = (each, λ h. eq-eqb _ _ (bit_ext _ _ (λ k. bit_and_lem k m w ∙ same_bit h k (zero_or_one k w))))
   where
-    each : holdsAll m w ≡ true → (k : ℕ) → bit k w ≡ 1 → bit k m ≡ 1
+    each : holds_all m w ≡ true → (k : ℕ) → bit k w ≡ 1 → bit k m ≡ 1
     each h k e =
         let a : bit k (bit_and m w) ≡ bit k w = ap (bit k) (eqb-true _ _ h) in
-        omega (arith, bit-and k m w, bit-lt k m)
+        omega (arith, bit_and_lem k m w, bit_lt k m)
 
     same_bit : ((k : ℕ) → bit k w ≡ 1 → bit k m ≡ 1) → (k : ℕ) → (bit k w ≡ 0) ⊎ (bit k w ≡ 1) → min (bit k m) (bit k w) ≡ bit k w
     same_bit h k (inl z) = omega arith
@@ -81,30 +81,30 @@ all-exactly m w = (each, λ h. eq-eqb _ _ (bit-ext _ _ (λ k. bit-and k m w ∙ 
 
 -- where the mode holds none of the set, no bit is in both
 both_zero : (k m w : ℕ) → bit_and m w ≡ 0 → min (bit k m) (bit k w) ≡ 0
-both_zero k m w e = sym (bit-and k m w) ∙ ap (bit k) e ∙ bit-zero k
+both_zero k m w e = sym (bit_and_lem k m w) ∙ ap (bit k) e ∙ bit_zero k
 
 -- it holds any of the set: some right of the set is in the mode
-pub any-exactly : (m w : ℕ) → not (holdsNone m w) ≡ true ↔ Shares m w
-any-exactly m w = (
-  λ h. found (some-bit (bit_and m w) (eqb-false _ _ (not-true _ h))),
+pub any_exactly : (m w : ℕ) → not (holds_none m w) ≡ true ↔ Shares m w
+any_exactly m w = (
+  λ h. found (some_bit (bit_and m w) (eqb-false _ _ (not-true _ h))),
   λ s. ap not (ne_eqb (bit_and m w) 0 (λ e. omega (arith, both_zero s.right m w e))),
 )
   where
     found : (k : ℕ) × (bit k (bit_and m w) ≡ 1) → Shares m w
     found r =
         let k : ℕ = r.0 in
-        let e : 1 ≡ min (bit k m) (bit k w) = sym r.1 ∙ bit-and k m w in
-        record { right = k; wanted = omega (arith, bit-lt k w); held = omega (arith, bit-lt k m) }
+        let e : 1 ≡ min (bit k m) (bit k w) = sym r.1 ∙ bit_and_lem k m w in
+        record { right = k; wanted = omega (arith, bit_lt k w); held = omega (arith, bit_lt k m) }
 
 -- it holds none of the set: no right of the set is in the mode
-pub none-exactly : (m w : ℕ) → holdsNone m w ≡ true ↔ ((k : ℕ) → bit k w ≡ 1 → bit k m ≡ 0)
-none-exactly m w = (
+pub none_exactly : (m w : ℕ) → holds_none m w ≡ true ↔ ((k : ℕ) → bit k w ≡ 1 → bit k m ≡ 0)
+none_exactly m w = (
   λ h k e. omega (arith, both_zero k m w (eqb-true _ _ h)),
-  λ h. ⊎_elim (λ t. t) (λ f. absurd (not-any h ((any-exactly m w).0 (ap not f)))) (flag (holdsNone m w)),
+  λ h. ⊎_elim (λ t. t) (λ f. absurd (not_any h ((any_exactly m w).0 (ap not f)))) (flag (holds_none m w)),
 )
   where
-    not-any : ((k : ℕ) → bit k w ≡ 1 → bit k m ≡ 0) → Shares m w → ⊥
-    not-any h s = omega (arith, h s.right s.wanted)
+    not_any : ((k : ℕ) → bit k w ≡ 1 → bit k m ≡ 0) → Shares m w → ⊥
+    not_any h s = omega (arith, h s.right s.wanted)
 
 -- the set of bit `k` alone: the mode holds none of it exactly where its bit `k` is 0
 one_bit : (k m : ℕ) → bit_and m (2 ^ k) ≡ 0 ↔ bit k m ≡ 0
@@ -119,28 +119,28 @@ one_bit (suc k) m =
     let e : bit_and m (2 ^ suc k) ≡ bit_and (m / 2) (2 ^ k) * 2 = and_step m (2 ^ suc k) ∙ rw (h, l) (omega arith) in
     (λ z. (one_bit k (m / 2)).0 (omega arith), λ z. omega (arith, (one_bit k (m / 2)).1 z))
 
-pub clear-exactly : (k m : ℕ) → holdsNone m (2 ^ k) ≡ true ↔ bit k m ≡ 0
-clear-exactly k m = (λ h. (one_bit k m).0 (eqb-true _ _ h), λ z. eq-eqb _ _ ((one_bit k m).1 z))
+pub clear_exactly : (k m : ℕ) → holds_none m (2 ^ k) ≡ true ↔ bit k m ≡ 0
+clear_exactly k m = (λ h. (one_bit k m).0 (eqb-true _ _ h), λ z. eq-eqb _ _ ((one_bit k m).1 z))
 
-pub set-exactly : (k m : ℕ) → not (holdsNone m (2 ^ k)) ≡ true ↔ bit k m ≡ 1
-set-exactly k m = (
-  λ h. ⊎_elim (λ z. absurd (eqb-false _ _ (not-true _ h) ((one_bit k m).1 z))) (λ o. o) (zero-or-one k m),
+pub set_exactly : (k m : ℕ) → not (holds_none m (2 ^ k)) ≡ true ↔ bit k m ≡ 1
+set_exactly k m = (
+  λ h. ⊎_elim (λ z. absurd (eqb-false _ _ (not-true _ h) ((one_bit k m).1 z))) (λ o. o) (zero_or_one k m),
   λ o. ap not (ne_eqb (bit_and m (2 ^ k)) 0 (λ e. omega (arith, (one_bit k m).0 e))),
 )
 
 -- the two bits of the mask 96
-pub spare-exactly : (m : ℕ) → holdsNone m 96 ≡ true ↔ (bit 5 m ≡ 0) × (bit 6 m ≡ 0)
+pub spare_exactly : (m : ℕ) → holds_none m 96 ≡ true ↔ (bit 5 m ≡ 0) × (bit 6 m ≡ 0)
 unfolding bit
-spare-exactly m =
-    (λ h. ((none-exactly m 96).0 h 5 refl, (none-exactly m 96).0 h 6 refl), λ z. eq-eqb (bit_and m 96) 0 (omega (arith, and_high m 2 5)))
+spare_exactly m =
+    (λ h. ((none_exactly m 96).0 h 5 refl, (none_exactly m 96).0 h 6 refl), λ z. eq-eqb (bit_and m 96) 0 (omega (arith, and_high m 2 5)))
 
 -- bit `j` only beside bit `k`
-pub beside-exactly : (j k m : ℕ) → (holdsNone m (2 ^ j) || not (holdsNone m (2 ^ k))) ≡ true ↔ (bit j m ≡ 1 → bit k m ≡ 1)
-beside-exactly j k m = (
-  λ h p. (set-exactly k m).0 (unless (holdsNone m (2 ^ j)) _ h (not-true _ ((set-exactly j m).1 p))),
-  λ f. or-unless (holdsNone m (2 ^ j)) _ (λ e. (set-exactly k m).1 (f ((set-exactly j m).0 (ap not e)))),
+pub beside_exactly : (j k m : ℕ) → (holds_none m (2 ^ j) || not (holds_none m (2 ^ k))) ≡ true ↔ (bit j m ≡ 1 → bit k m ≡ 1)
+beside_exactly j k m = (
+  λ h p. (set_exactly k m).0 (unless (holds_none m (2 ^ j)) _ h (not-true _ ((set_exactly j m).1 p))),
+  λ f. or_unless (holds_none m (2 ^ j)) _ (λ e. (set_exactly k m).1 (f ((set_exactly j m).0 (ap not e)))),
 )
 
 -- two tests both pass exactly where what each says holds
-pub and-exactly : {a b : Bool} {A B : Type 0} → (a ≡ true ↔ A) → (b ≡ true ↔ B) → (a && b) ≡ true ↔ A × B
-and-exactly {a} {b} p q = (λ h. (p.0 (and_left a b h), q.0 (and_right a b h)), λ r. and_both (p.1 r.0) (q.1 r.1))
+pub and_exactly : {a b : Bool} {A B : Type 0} → (a ≡ true ↔ A) → (b ≡ true ↔ B) → (a && b) ≡ true ↔ A × B
+and_exactly {a} {b} p q = (λ h. (p.0 (and_left a b h), q.0 (and_right a b h)), λ r. and_both (p.1 r.0) (q.1 r.1))

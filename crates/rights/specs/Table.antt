@@ -8,5 +8,5 @@ abbrev pub entry : ℕ → ℕ
 entry mode = cond (legal mode) 1 0
 
 -- the entries of modes 0 to 255
-unfoldable pub modeTable : List ℕ
-modeTable = tabulate 256 entry
+unfoldable pub mode_table : List ℕ
+mode_table = tabulate 256 entry

@@ -1,6 +1,6 @@
 // The mode table.
 ghost use Rattle.std.specs.Prelude.{◌≡◌};
-ghost use Rattle.rights.specs.Table.{modeTable};
+ghost use Rattle.rights.specs.Table.{mode_table};
 
 // 1 for a legal mode, 0 for any other: modes 0 to 255, sixteen a line, as on the chart in docs/MODES.md.
 const MODES: [u8; 256] = *b"\
@@ -23,7 +23,7 @@ const MODES: [u8; 256] = *b"\
 
 // The whole table.
 pub fn mode_table() -> [u8; 256]
-    ensures { result ≡ modeTable }
+    ensures { result ≡ mode_table }
 {
     MODES
 }

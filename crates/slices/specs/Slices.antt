@@ -21,5 +21,5 @@ unfoldable pub cleared : List ℕ → List ℕ
 cleared bytes = filled bytes (0 ∷ [])
 
 -- the refusal of a wrong length, 0 where there is none
-abbrev pub wrongLength : ℕ → ℕ → ℕ
-wrongLength store values = cond (eqb store 65536) (cond (eqb values 88) 0 13) 2
+abbrev pub wrong_length : ℕ → ℕ → ℕ
+wrong_length store values = cond (eqb store 65536) (cond (eqb values 88) 0 13) 2

@@ -1,7 +1,7 @@
 // The values behind an answer, as bytes.
 ghost use Rattle.std.specs.Prelude.{◌≡◌, ◌<◌};
 ghost use Rattle.bounded.specs.Fill.{tabulate};
-ghost use Rattle.calls.specs.Answers.{valuesFrom};
+ghost use Rattle.calls.specs.Answers.{values_from};
 ghost use Rattle.calls.specs.declared.Answer.TheVariants.{Done};
 ghost use Rattle.slices.specs.Slices.{filled, cleared};
 ghost use Rattle.slices.specs.Laws.Valued.{value_at};
@@ -51,7 +51,7 @@ fn value_words(value: u64, f: Fields) -> [u64; 11]
 
 // The values of a done call as bytes; a slice of another length is not touched.
 pub fn put_values(bytes: &mut [u8], value: u64, f: Fields)
-    ensures { bytes.new ≡ filled bytes.old (valuesFrom (Done value) f) }
+    ensures { bytes.new ≡ filled bytes.old (values_from (Done value) f) }
 {
     if bytes.len() != VALUES {
         return;

@@ -1,12 +1,12 @@
 // Whether the accounts keep their bounds.
 ghost use Rattle.std.specs.Prelude.{◌≡◌};
-ghost use Rattle.soundness.specs.Sound.{accountsOk};
+ghost use Rattle.soundness.specs.Sound.{accounts_ok};
 
 use state::Accounts;
 
 // Whether each limit is at most 128 pages, and each set one of the four accounts.
 pub fn accounts_ok(x: Accounts) -> bool
-    ensures { result ≡ accountsOk x }
+    ensures { result ≡ accounts_ok x }
 {
     let limits = (x.limits[0] <= 128)
         & (x.limits[1] <= 128)

@@ -1,7 +1,7 @@
 // Whether the frames of a protection domain keep their bounds.
 ghost use Rattle.std.specs.Prelude.{◌≡◌, cond, ltb};
 ghost use Rattle.state.specs.Places.{slot_at};
-ghost use Rattle.soundness.specs.Sound.{blank, frameBounds, frameOk, domainOk};
+ghost use Rattle.soundness.specs.Sound.{blank, frame_bounds, frame_ok, domain_ok};
 ghost use Rattle.soundness.specs.Laws.Reach.{reach};
 
 use state::{Capability, Domain, Frame};
@@ -39,7 +39,7 @@ fn slots_reach(f: Frame) -> u8
 
 // Whether a frame keeps its bounds.
 fn frame_bounds(f: Frame) -> bool
-    ensures { result ≡ frameBounds f }
+    ensures { result ≡ frame_bounds f }
 {
     let n = f.count;
     let pages = names_page(f.slots[0])
@@ -55,14 +55,14 @@ fn frame_bounds(f: Frame) -> bool
 
 // Whether a frame is all zero where it is unused, and else keeps its bounds.
 fn frame_ok(unused: bool, f: Frame) -> bool
-    ensures { result ≡ frameOk unused f }
+    ensures { result ≡ frame_ok unused f }
 {
     frame_bounds(f) & (!unused | ((f.count == 0) & !f.whole))
 }
 
 // Whether a domain keeps its bounds.
 pub fn domain_ok(m: Domain) -> bool
-    ensures { result ≡ domainOk m }
+    ensures { result ≡ domain_ok m }
 {
     let n = m.depth;
     let saved = frame_ok(n <= 0, m.saved[0])

@@ -4,7 +4,7 @@ mod frames;
 mod objects;
 
 ghost use Rattle.std.specs.Prelude.{◌≡◌};
-ghost use Rattle.rights.specs.Table.{modeTable};
+ghost use Rattle.rights.specs.Table.{mode_table};
 ghost use Rattle.soundness.specs.Sound.{sound};
 
 use crate::accounts::accounts_ok;
@@ -15,7 +15,7 @@ use state::State;
 
 // Whether the state keeps its bounds, by the mode table.
 fn sound_by(modes: &[u8], s: State) -> bool
-    requires { modes.now ≡ modeTable }
+    requires { modes.now ≡ mode_table }
     ensures { result ≡ sound s }
 {
     let t = s.table;

@@ -2,10 +2,10 @@
 ghost use Rattle.std.specs.Prelude.{◌≡◌, cond, ◌&&◌, ◌||◌, [], ◌∷◌, ◌/◌, ltb, eqb};
 ghost use Rattle.bounded.specs.Every.{below};
 ghost use Rattle.rights.specs.Modes.{legal};
-ghost use Rattle.rights.specs.Table.{modeTable};
-ghost use Rattle.state.specs.Places.{entry_at, objectAt};
-ghost use Rattle.state.specs.Extent.{free, covers, liesIn};
-ghost use Rattle.soundness.specs.Sound.{distinct, allPasswords, passwordNext, registrationOk, withoutPasswords, objectOk, follows, orderedAt, estateOk};
+ghost use Rattle.rights.specs.Table.{mode_table};
+ghost use Rattle.state.specs.Places.{entry_at, object_at};
+ghost use Rattle.state.specs.Extent.{free, covers, lies_in};
+ghost use Rattle.soundness.specs.Sound.{distinct, all_passwords, password_next, registration_ok, without_passwords, object_ok, follows, ordered_at, estate_ok};
 ghost use Rattle.soundness.specs.Laws.Reach.{reach};
 
 use state::extents::{covers, lies_in};
@@ -13,7 +13,7 @@ use state::{Estate, Object, Password};
 
 // Whether a password is all zero or has a legal mode.
 fn password_ok(modes: &[u8], p: Password) -> bool
-    requires { modes.now ≡ modeTable }
+    requires { modes.now ≡ mode_table }
     ensures { result ≡ cond (eqb p.word 0) (eqb p.mode 0) (legal p.mode) }
 {
     let unused = p.word == 0;
@@ -33,7 +33,7 @@ fn all_distinct(v: u64, w: u64, x: u64, y: u64, z: u64) -> bool
 
 // Whether no password of the object stands behind a free place, and none, the registration's included, stands twice.
 fn passwords_placed(o: Object) -> bool
-    ensures { result ≡ (below 3 (passwordNext o) && distinct (allPasswords o)) }
+    ensures { result ≡ (below 3 (password_next o) && distinct (all_passwords o)) }
 {
     let g = o.registration;
     let p = o.passwords[0];
@@ -76,7 +76,7 @@ fn entries_reach(o: Object) -> u8
 
 // Whether a registration is all zero, or keeps its bounds.
 fn registration_ok(o: Object) -> bool
-    ensures { result ≡ registrationOk o }
+    ensures { result ≡ registration_ok o }
 {
     let g = o.registration;
     let n = g.count;
@@ -94,7 +94,7 @@ fn registration_ok(o: Object) -> bool
 
 // Whether the object has no password, and no registration.
 fn without_passwords(o: Object) -> bool
-    ensures { result ≡ withoutPasswords o }
+    ensures { result ≡ without_passwords o }
 {
     let g = o.registration;
     let p = o.passwords[0];
@@ -106,7 +106,7 @@ fn without_passwords(o: Object) -> bool
 
 // Whether a place without pages is zero beside its modes and entries, or the object lies in the estate of domain d, on an account.
 fn place_ok(o: Object, d: u8) -> bool
-    ensures { result ≡ cond (free o) (eqb o.base 0 && withoutPasswords o && eqb o.account 0) (liesIn o d && ltb o.account 4) }
+    ensures { result ≡ cond (free o) (eqb o.base 0 && without_passwords o && eqb o.account 0) (lies_in o d && ltb o.account 4) }
 {
     let unused = o.pages == 0;
     let zero = (o.base == 0) & without_passwords(o) & (o.account == 0);
@@ -116,8 +116,8 @@ fn place_ok(o: Object, d: u8) -> bool
 
 // Whether an object is all zero, or keeps its bounds.
 fn object_ok(modes: &[u8], o: Object, d: u8) -> bool
-    requires { modes.now ≡ modeTable }
-    ensures { result ≡ objectOk o d }
+    requires { modes.now ≡ mode_table }
+    ensures { result ≡ object_ok o d }
 {
     let passwords = password_ok(modes, o.passwords[0])
         & password_ok(modes, o.passwords[1])
@@ -135,7 +135,7 @@ fn follows(a: Object, b: Object) -> bool
 
 // Whether the objects of the estate stand in the first places, by rising base, and apart.
 fn in_order(e: Estate) -> bool
-    ensures { result ≡ below 7 (orderedAt e) }
+    ensures { result ≡ below 7 (ordered_at e) }
 {
     follows(e.objects[0], e.objects[1])
         & follows(e.objects[1], e.objects[2])
@@ -148,8 +148,8 @@ fn in_order(e: Estate) -> bool
 
 // Whether each object of the estate keeps its bounds.
 fn objects_ok(modes: &[u8], e: Estate, d: u8) -> bool
-    requires { modes.now ≡ modeTable }
-    ensures { result ≡ below 8 (λ k. objectOk (objectAt e k) d) }
+    requires { modes.now ≡ mode_table }
+    ensures { result ≡ below 8 (λ k. object_ok (object_at e k) d) }
 {
     object_ok(modes, e.objects[0], d)
         & object_ok(modes, e.objects[1], d)
@@ -163,8 +163,8 @@ fn objects_ok(modes: &[u8], e: Estate, d: u8) -> bool
 
 // Whether the estate of domain d keeps its bounds.
 pub fn estate_ok(modes: &[u8], e: Estate, d: u8) -> bool
-    requires { modes.now ≡ modeTable }
-    ensures { result ≡ estateOk e d }
+    requires { modes.now ≡ mode_table }
+    ensures { result ≡ estate_ok e d }
 {
     objects_ok(modes, e, d) & in_order(e)
 }

@@ -11,8 +11,8 @@ unfoldable pub covers : Object → ℕ → Bool
 covers o page = leb o.base page && ltb page (o.base + o.pages)
 
 -- item 2: the whole run lies in the 32 pages of domain d's estate
-unfoldable pub liesIn : Object → ℕ → Bool
-liesIn o d = leb (32 * d) o.base && leb (o.base + o.pages) (32 * d + 32)
+unfoldable pub lies_in : Object → ℕ → Bool
+lies_in o d = leb (32 * d) o.base && leb (o.base + o.pages) (32 * d + 32)
 
 -- item 3: two objects have no page in common; a free place has none
 unfoldable pub apart : Object → Object → Bool

@@ -1,6 +1,6 @@
 // The objects of an estate, looked up.
 ghost use Rattle.std.specs.Prelude.{◌≡◌};
-ghost use Rattle.state.specs.Lookup.{covering, based, placeBased, hasRoom};
+ghost use Rattle.state.specs.Lookup.{covering, based, place_based, has_room};
 
 use crate::objects::{free_object, has_base};
 use crate::{Estate, Object};
@@ -27,7 +27,7 @@ pub fn covering(e: Estate, page: u64) -> Object
 
 // The place of the object with the base, 8 where there is none.
 pub fn place_based(e: Estate, page: u64) -> usize
-    ensures { result ≡ placeBased e page }
+    ensures { result ≡ place_based e page }
 {
     let mut k = 0;
     while k < 8 {
@@ -53,7 +53,7 @@ pub fn based(e: Estate, page: u64) -> Object
 
 // Whether there is room for an object more.
 pub fn has_room(e: Estate) -> bool
-    ensures { result ≡ hasRoom e }
+    ensures { result ≡ has_room e }
 {
     let o = e.objects[7];
     o.pages == 0

@@ -1,6 +1,6 @@
 // The run of pages of an object.
 ghost use Rattle.std.specs.Prelude.{◌≡◌};
-ghost use Rattle.state.specs.Extent.{covers, liesIn, apart};
+ghost use Rattle.state.specs.Extent.{covers, lies_in, apart};
 
 use crate::Object;
 
@@ -15,7 +15,7 @@ pub fn covers(o: Object, page: u64) -> bool
 
 // Whether the object lies in the estate of domain d.
 pub fn lies_in(o: Object, d: u8) -> bool
-    ensures { result ≡ liesIn o d }
+    ensures { result ≡ lies_in o d }
 {
     let start = 32 * (d as u64);
     let base = o.base as u64;

@@ -1,14 +1,14 @@
 // One object: its passwords and its registration, looked up, and what a free place holds.
 ghost use Rattle.std.specs.Prelude.{◌≡◌};
-ghost use Rattle.state.specs.Places.{freeRegistration, freeObject};
-ghost use Rattle.state.specs.Lookup.{hasBase, place_of, freePasswordPlace, ordinaryMode, mode_of, hasPassword};
+ghost use Rattle.state.specs.Places.{free_registration, free_object};
+ghost use Rattle.state.specs.Lookup.{has_base, place_of, free_password_place, ordinary_mode, mode_of, has_password};
 
 use crate::{Capability, Object, Password, Registration};
 use rights::Rights;
 
 // Whether the object stands and has the base.
 pub fn has_base(o: Object, page: u64) -> bool
-    ensures { result ≡ hasBase page o }
+    ensures { result ≡ has_base page o }
 {
     (o.pages != 0) & (o.base as u64 == page)
 }
@@ -38,14 +38,14 @@ pub fn place_of(o: Object, word: u64) -> usize
 
 // The first free place for a password, 4 where there is none.
 pub fn free_password_place(o: Object) -> usize
-    ensures { result ≡ freePasswordPlace o }
+    ensures { result ≡ free_password_place o }
 {
     place_of(o, 0)
 }
 
 // The mode that a password has as an ordinary one of the object, 0 where it is none.
 pub fn ordinary_mode(o: Object, word: u64) -> u8
-    ensures { result ≡ ordinaryMode o word }
+    ensures { result ≡ ordinary_mode o word }
 {
     if word == 0 {
         return 0;
@@ -82,7 +82,7 @@ pub fn mode_of(o: Object, word: u64) -> u8
 
 // Whether the object has the password, the registration's included.
 pub fn has_password(o: Object, word: u64) -> bool
-    ensures { result ≡ hasPassword o word }
+    ensures { result ≡ has_password o word }
 {
     let g = o.registration;
     let k = place_of(o, word);
@@ -91,7 +91,7 @@ pub fn has_password(o: Object, word: u64) -> bool
 
 // No registration.
 pub fn free_registration() -> Registration
-    ensures { result ≡ freeRegistration }
+    ensures { result ≡ free_registration }
 {
     Registration {
         password: 0,
@@ -106,7 +106,7 @@ pub fn free_registration() -> Registration
 
 // No object.
 pub fn free_object() -> Object
-    ensures { result ≡ freeObject }
+    ensures { result ≡ free_object }
 {
     Object {
         base: 0,

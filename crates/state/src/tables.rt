@@ -1,6 +1,6 @@
 // Objects looked up in the whole table.
 ghost use Rattle.std.specs.Prelude.{◌≡◌};
-ghost use Rattle.state.specs.Lookup.{objectBased, objectCovering};
+ghost use Rattle.state.specs.Lookup.{object_based, object_covering};
 
 use crate::estates::{based, covering};
 use crate::objects::free_object;
@@ -8,7 +8,7 @@ use crate::{Object, Table};
 
 // The object with the base, a free one where there is none.
 pub fn object_based(t: Table, page: u64) -> Object
-    ensures { result ≡ objectBased t page }
+    ensures { result ≡ object_based t page }
 {
     let d = page / 32;
     if d == 0 {
@@ -28,7 +28,7 @@ pub fn object_based(t: Table, page: u64) -> Object
 
 // The object whose run has the page, a free one where there is none.
 pub fn object_covering(t: Table, page: u64) -> Object
-    ensures { result ≡ objectCovering t page }
+    ensures { result ≡ object_covering t page }
 {
     let d = page / 32;
     if d == 0 {

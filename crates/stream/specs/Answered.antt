@@ -10,47 +10,47 @@ use Rattle.lines.specs.Until.{until}
 use Rattle.lines.specs.Reading.{Reading, reads}
 use Rattle.lines.specs.declared.Line.{Line}
 use Rattle.replies.specs.Reply.{Carrying, reply}
-use Rattle.replies.specs.Told.{Told, told-on}
-use Rattle.stream.specs.Run.{Progress, nextNumber}
-use Rattle.stream.specs.Feed.{progressAt, heldBytes, heldByte}
-use Rattle.stream.specs.Feeding.{Fed, fed-part, fed-line, at-feed}
+use Rattle.replies.specs.Told.{Told, told_on}
+use Rattle.stream.specs.Run.{Progress, next_number}
+use Rattle.stream.specs.Feed.{progress_at, held_bytes, held_byte}
+use Rattle.stream.specs.Feeding.{Fed, fed_part, fed_line, at_feed}
 use Rattle.stream.specs.Room.{shorter}
 
 module _ (carry : Carrying) (more : List ℕ → ℕ → List ℕ) {a : Progress} {piece : List ℕ} {from end : ℕ} {w : World} {number : ℕ} (line out : List ℕ) (at : ℕ) where
   -- the piece is taken behind the line feed, and the line's answer stands in the buffer
-  pub fed-told : {reading : Reading} {w' : World} {number' : ℕ} (out' : List ℕ) (at' : ℕ)
+  pub fed_told : {reading : Reading} {w' : World} {number' : ℕ} (out' : List ℕ) (at' : ℕ)
       → Fed carry more a piece from (record { world = w; number = number; line = line; text = take at out }) → end ≡ from + until 10 (drop from piece)
-      → (end ≡ length piece → ⊥) → reading ≡ line_of (foldl more line (take (end - from) (drop from piece))) → number' ≡ nextNumber number
+      → (end ≡ length piece → ⊥) → reading ≡ line_of (foldl more line (take (end - from) (drop from piece))) → number' ≡ next_number number
       → Told number out at out' at' w' (reply carry w reading) → at + 273 ≤ length out
       → Fed carry more a piece (end + 1) (record { world = w'; number = number'; line = []; text = take at' out' })
-  fed-told {reading} out' at' f to ne e n t h =
-      let p = fed-part carry more f to refl in
+  fed_told {reading} out' at' f to ne e n t h =
+      let p = fed_part carry more f to refl in
       let l = shorter ne p.bound in
-      fed-line carry more p l (at-feed carry more f to l) (ap (reply carry w) (sym e)) n (told-on t h).text t.world
+      fed_line carry more p l (at_feed carry more f to l) (ap (reply carry w) (sym e)) n (told_on t h).text t.world
 
 -- where the program stands at byte `from` of a piece, with a store of n words and a buffer of `size` bytes
 pub record Stands (a : Progress) (piece : List ℕ) (n size : ℕ) (s : State) (words : List ℕ) (number : ℕ) (line : List ℕ) (held : ℕ) (out : List ℕ) (at from : ℕ) : Type 0 where
-  pub fed : Fed unchecked heldByte a piece from (progressAt s words number line held out at)
-  pub few : held ≤ heldBytes
-  pub hold : length line ≡ heldBytes
+  pub fed : Fed unchecked held_byte a piece from (progress_at s words number line held out at)
+  pub few : held ≤ held_bytes
+  pub hold : length line ≡ held_bytes
   pub buffer : length out ≡ size
   pub store : length words ≡ n
   pub within : at ≤ length out
 
 -- and behind a line that is answered there, of whatever kind
-pub stands-told : {a : Progress} {piece : List ℕ} {n size : ℕ} {s : State} {words : List ℕ} {number : ℕ} {line : List ℕ} {held : ℕ} {out : List ℕ} {at from end : ℕ}
+pub stands_told : {a : Progress} {piece : List ℕ} {n size : ℕ} {s : State} {words : List ℕ} {number : ℕ} {line : List ℕ} {held : ℕ} {out : List ℕ} {at from end : ℕ}
     {l : Line} {number' : ℕ} {line' : List ℕ} {s' : State} {words' out' : List ℕ} {at' : ℕ} (reading : Line) (plan : List ℕ)
     → Stands a piece n size s words number line held out at from → end ≡ from + until 10 (drop from piece) → (end ≡ length piece → ⊥)
-    → reads reading plan ≡ line_of (foldl heldByte (take held line) (take (end - from) (drop from piece))) → number' ≡ nextNumber number → length line' ≡ length line
+    → reads reading plan ≡ line_of (foldl held_byte (take held line) (take (end - from) (drop from piece))) → number' ≡ next_number number → length line' ≡ length line
     → reading ≡ l → at + 273 ≤ length out → Told number out at out' at' (world s' words') (reply unchecked (world s words) (reads l plan))
     → length words' ≡ length words → length out' ≡ length out
     → Stands a piece n size s' words' number' line' 0 out' at' (end + 1)
-stands-told {line = line} {held = held} {out = out} {at = at} {out' = out'} {at' = at'} reading plan v to ne e m k q h t w o =
+stands_told {line = line} {held = held} {out = out} {at = at} {out' = out'} {at' = at'} reading plan v to ne e m k q h t w o =
     record {
-      fed = fed-told unchecked heldByte (take held line) out at out' at' v.fed to ne (ap (λ (z : Line). reads z plan) (sym q) ∙ e) m t h;
+      fed = fed_told unchecked held_byte (take held line) out at out' at' v.fed to ne (ap (λ (z : Line). reads z plan) (sym q) ∙ e) m t h;
       few = omega arith;
       hold = k ∙ v.hold;
       buffer = o ∙ v.buffer;
       store = w ∙ v.store;
-      within = omega (arith, (told-on t h).within, o);
+      within = omega (arith, (told_on t h).within, o);
     }

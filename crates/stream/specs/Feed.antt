@@ -1,36 +1,36 @@
 -- Where the program stands, what a turn of it is, and which input leads there.
 use Rattle.std.specs.Prelude.{ℕ, ◌+◌, ◌≤◌, ◌≡◌, Bool, not, cond, ◌||◌, leb, ltb, eqb, length, take, replicate}
 use mathlib.Core.List.{List, [], ◌∷◌, ◌++◌, foldl}
-use Rattle.state.specs.Places.{emptyState}
+use Rattle.state.specs.Places.{empty_state}
 use Rattle.state.specs.declared.State.{State}
 use Rattle.calls.specs.Step.{world, unchecked}
-use Rattle.lines.specs.Grammar.{lineBytes}
-use Rattle.text.specs.Answer.{printed, printedEnd}
+use Rattle.lines.specs.Grammar.{line_bytes}
+use Rattle.text.specs.Answer.{printed, printed_end}
 use Rattle.replies.specs.Reply.{Carrying}
-use Rattle.stream.specs.Run.{Progress, withLine, onByteBy}
+use Rattle.stream.specs.Run.{Progress, with_line, on_byte_by}
 use Rattle.stream.specs.declared.Feed.{Feed}
 
 -- the first `held` bytes of the line, and the first `at` bytes of the buffer
-abbrev pub progressAt : State → List ℕ → ℕ → List ℕ → ℕ → List ℕ → ℕ → Progress
-progressAt s words number line held out at = record { world = world s words; number = number; line = take held line; text = take at out }
+abbrev pub progress_at : State → List ℕ → ℕ → List ℕ → ℕ → List ℕ → ℕ → Progress
+progress_at s words number line held out at = record { world = world s words; number = number; line = take held line; text = take at out }
 
-abbrev pub progressOf : Feed → List ℕ → List ℕ → Progress
-progressOf f words out = progressAt f.state words f.number f.line f.held out f.at
+abbrev pub progress_of : Feed → List ℕ → List ℕ → Progress
+progress_of f words out = progress_at f.state words f.number f.line f.held out f.at
 
 -- of a line it holds one byte more than the longest has, enough to tell that it is too long; the code's `HELD_BYTES`
-abbrev pub heldBytes : ℕ
-heldBytes = lineBytes + 1
+abbrev pub held_bytes : ℕ
+held_bytes = line_bytes + 1
 
 -- what it holds at first
-abbrev pub startFeed : Feed
-startFeed = record { state = emptyState; number = 1; line = replicate heldBytes 0; held = 0; at = 0; taken = 0 }
+abbrev pub start_feed : Feed
+start_feed = record { state = empty_state; number = 1; line = replicate held_bytes 0; held = 0; at = 0; taken = 0 }
 
 -- an empty buffer after the last line, and where the text in it ends
-abbrev pub finishedText : Feed → List ℕ → List ℕ
-finishedText f out = cond (eqb f.held 0) out (printed out 0 f.number 1 (0 ∷ []))
+abbrev pub finished_text : Feed → List ℕ → List ℕ
+finished_text f out = cond (eqb f.held 0) out (printed out 0 f.number 1 (0 ∷ []))
 
-abbrev pub finishedEnd : Feed → List ℕ → ℕ
-finishedEnd f out = cond (eqb f.held 0) 0 (printedEnd out 0 f.number 1 (0 ∷ []))
+abbrev pub finished_end : Feed → List ℕ → ℕ
+finished_end f out = cond (eqb f.held 0) 0 (printed_end out 0 f.number 1 (0 ∷ []))
 
 -- the longest answer has 42 + 21 × 11 bytes
 abbrev pub room_for : ℕ → ℕ → Bool
@@ -41,15 +41,15 @@ abbrev pub stopped : ℕ → ℕ → ℕ → ℕ → Bool
 stopped piece out taken at = eqb taken piece || not (room_for out at)
 
 -- one byte more, where it is held
-abbrev pub heldByte : List ℕ → ℕ → List ℕ
-heldByte line b = cond (ltb (length line) heldBytes) (line ++ (b ∷ [])) line
+abbrev pub held_byte : List ℕ → ℕ → List ℕ
+held_byte line b = cond (ltb (length line) held_bytes) (line ++ (b ∷ [])) line
 
-abbrev pub onHeld : Carrying → Progress → ℕ → Progress
-onHeld carry = onByteBy carry heldByte
+abbrev pub on_held : Carrying → Progress → ℕ → Progress
+on_held carry = on_byte_by carry held_byte
 
 -- a progress with the bytes of its line that are held
 abbrev pub cut : Progress → Progress
-cut r = withLine r (take heldBytes r.line)
+cut r = with_line r (take held_bytes r.line)
 
 -- the same run with nothing written yet
 abbrev pub flushed : Progress → Progress
@@ -66,9 +66,9 @@ emptied f = record { state = f.state; number = f.number; line = f.line; held = f
 
 -- what is written from a feed on: for each piece that `feed_piece` takes from an empty buffer its text, and what `finish` adds
 pub data Turns : Feed → List ℕ → List (List ℕ) → List ℕ → Type 0 where
-  finish : (f : Feed) (words out : List ℕ) → length f.line ≡ heldBytes → 273 ≤ length out → Turns f words [] (take (finishedEnd f out) (finishedText f out))
+  finish : (f : Feed) (words out : List ℕ) → length f.line ≡ held_bytes → 273 ≤ length out → Turns f words [] (take (finished_end f out) (finished_text f out))
   turn : (f : Feed) (words out : List ℕ) (p : List ℕ) (f' : Feed) (words' out' : List ℕ) (ps : List (List ℕ)) (t : List ℕ)
-      → progressOf f' words' out' ≡ foldl (onHeld unchecked) (progressOf (emptied f) words out) p → Turns f' words' ps t
+      → progress_of f' words' out' ≡ foldl (on_held unchecked) (progress_of (emptied f) words out) p → Turns f' words' ps t
       → Turns f words (p ∷ ps) (take f'.at out' ++ t)
 
 -- state, store, number and the line that is read
@@ -77,9 +77,9 @@ standing f words = record { world = world f.state words; number = f.number; line
 
 -- the bytes of s lead from one feed and store to another
 abbrev pub Leads : Feed → List ℕ → List ℕ → Feed → List ℕ → Type 0
-Leads f words s f' words' = standing f' words' ≡ flushed (foldl (onHeld unchecked) (standing f words) s)
+Leads f words s f' words' = standing f' words' ≡ flushed (foldl (on_held unchecked) (standing f words) s)
 
 -- some input leads there from the start
 pub record Reached (words : List ℕ) (f : Feed) (words' : List ℕ) : Type 0 where
   pub input : List ℕ
-  pub led : Leads startFeed words input f words'
+  pub led : Leads start_feed words input f words'

@@ -6,86 +6,86 @@ use Rattle.std.proofs.Math.Bool.{true, false, cond}
 use mathlib.Core.List.{List, [], ◌∷◌, ◌++◌, foldl, append_assoc, append-nil}
 use Rattle.std.proofs.lemmas.List.{take-append-le}
 use Rattle.std.proofs.lemmas.Bool.{eqb-false}
-use Rattle.lines.specs.Grammar.{lineBytes, line_of}
+use Rattle.lines.specs.Grammar.{line_bytes, line_of}
 use Rattle.replies.specs.Reply.{Carrying, reply}
-use Rattle.stream.specs.Run.{Progress, lineDone, withLine, onByteBy, extended, lastLine}
-use Rattle.stream.specs.Feed.{heldBytes, heldByte, onHeld, cut}
+use Rattle.stream.specs.Run.{Progress, line_done, with_line, on_byte_by, extended, last_line}
+use Rattle.stream.specs.Feed.{held_bytes, held_byte, on_held, cut}
 
 -- a line reads as the bytes that are held
-pub cut-reads : (s : List ℕ) → line_of (take heldBytes s) ≡ line_of s
+pub cut_reads : (s : List ℕ) → line_of (take held_bytes s) ≡ line_of s
 unfolding line_of
-cut-reads s = go (ltb (length s) (heldBytes + 1)) refl
+cut_reads s = go (ltb (length s) (held_bytes + 1)) refl
   where
-    go : (b : Bool) → ltb (length s) (heldBytes + 1) ≡ b → line_of (take heldBytes s) ≡ line_of s
-    go true e = let l : length s < heldBytes + 1 = ltb-true _ _ e in ap line_of (take_all heldBytes s (omega arith))
+    go : (b : Bool) → ltb (length s) (held_bytes + 1) ≡ b → line_of (take held_bytes s) ≡ line_of s
+    go true e = let l : length s < held_bytes + 1 = ltb-true _ _ e in ap line_of (take_all held_bytes s (omega arith))
     go false e =
-        let l : heldBytes + 1 ≤ length s = ltb-false _ _ e in
-        let n : lineBytes < length (take heldBytes s) = omega (arith, length-take heldBytes s) in
-        let m : lineBytes < length s = omega arith in
-        rw (lt-ltb lineBytes (length (take heldBytes s)) n, lt-ltb lineBytes (length s) m)
+        let l : held_bytes + 1 ≤ length s = ltb-false _ _ e in
+        let n : line_bytes < length (take held_bytes s) = omega (arith, length-take held_bytes s) in
+        let m : line_bytes < length s = omega arith in
+        rw (lt-ltb line_bytes (length (take held_bytes s)) n, lt-ltb line_bytes (length s) m)
 
 -- holding is cutting
-pub held_cut : (s : List ℕ) (b : ℕ) → heldByte (take heldBytes s) b ≡ take heldBytes (extended s b)
-held_cut s b = go (ltb (length s) heldBytes) refl
+pub held_cut : (s : List ℕ) (b : ℕ) → held_byte (take held_bytes s) b ≡ take held_bytes (extended s b)
+held_cut s b = go (ltb (length s) held_bytes) refl
   where
-    go : (t : Bool) → ltb (length s) heldBytes ≡ t → heldByte (take heldBytes s) b ≡ take heldBytes (extended s b)
+    go : (t : Bool) → ltb (length s) held_bytes ≡ t → held_byte (take held_bytes s) b ≡ take held_bytes (extended s b)
     go true e =
-        let l : length s < heldBytes = ltb-true _ _ e in
-        let k : length (s ++ (b ∷ [])) ≤ heldBytes = omega (arith, length-append s (b ∷ [])) in
-        rw (take_all heldBytes s (omega arith), take_all heldBytes (s ++ (b ∷ [])) k, lt-ltb (length s) heldBytes l)
+        let l : length s < held_bytes = ltb-true _ _ e in
+        let k : length (s ++ (b ∷ [])) ≤ held_bytes = omega (arith, length-append s (b ∷ [])) in
+        rw (take_all held_bytes s (omega arith), take_all held_bytes (s ++ (b ∷ [])) k, lt-ltb (length s) held_bytes l)
     go false e =
-        let l : heldBytes ≤ length s = ltb-false _ _ e in
-        let k : length (take heldBytes s) ≡ heldBytes = length-take-le heldBytes s l in
-        rw (k, take-append-le heldBytes s (b ∷ []) l)
+        let l : held_bytes ≤ length s = ltb-false _ _ e in
+        let k : length (take held_bytes s) ≡ held_bytes = length-take-le held_bytes s l in
+        rw (k, take-append-le held_bytes s (b ∷ []) l)
 
-held-fold : (s a : List ℕ) → foldl heldByte (take heldBytes a) s ≡ take heldBytes (a ++ s)
-held-fold [] a = ap (take heldBytes) (sym (append-nil a))
-held-fold (b ∷ s) a = ap (λ (z : List ℕ). foldl heldByte z s) (held_cut a b) ∙ held-fold s (extended a b) ∙ ap (take heldBytes) (append_assoc a (b ∷ []) s)
+held_fold : (s a : List ℕ) → foldl held_byte (take held_bytes a) s ≡ take held_bytes (a ++ s)
+held_fold [] a = ap (take held_bytes) (sym (append-nil a))
+held_fold (b ∷ s) a = ap (λ (z : List ℕ). foldl held_byte z s) (held_cut a b) ∙ held_fold s (extended a b) ∙ ap (take held_bytes) (append_assoc a (b ∷ []) s)
 
 -- a line read where it lies reads as one that is held
-pub whole-reads : (s : List ℕ) → line_of s ≡ line_of (foldl heldByte [] s)
-whole-reads s = sym (cut-reads s) ∙ ap line_of (sym (held-fold s []))
+pub whole_reads : (s : List ℕ) → line_of s ≡ line_of (foldl held_byte [] s)
+whole_reads s = sym (cut_reads s) ∙ ap line_of (sym (held_fold s []))
 
 module _ (carry : Carrying) where
-  pub cut-byte : (r : Progress) (b : ℕ) → onHeld carry (cut r) b ≡ cut (onByteBy carry extended r b)
-  unfolding onByteBy
-  cut-byte r b = go (eqb b 10)
+  pub cut_byte : (r : Progress) (b : ℕ) → on_held carry (cut r) b ≡ cut (on_byte_by carry extended r b)
+  unfolding on_byte_by
+  cut_byte r b = go (eqb b 10)
     where
       go : (t : Bool)
-          → cond t (lineDone (cut r) (reply carry r.world (line_of (take heldBytes r.line)))) (withLine r (heldByte (take heldBytes r.line) b))
-          ≡ cut (cond t (lineDone r (reply carry r.world (line_of r.line))) (withLine r (extended r.line b)))
-      go true = rw (cut-reads r.line)
-      go false = ap (withLine r) (held_cut r.line b)
+          → cond t (line_done (cut r) (reply carry r.world (line_of (take held_bytes r.line)))) (with_line r (held_byte (take held_bytes r.line) b))
+          ≡ cut (cond t (line_done r (reply carry r.world (line_of r.line))) (with_line r (extended r.line b)))
+      go true = rw (cut_reads r.line)
+      go false = ap (with_line r) (held_cut r.line b)
 
-  pub cut-run : (s : List ℕ) (r : Progress) → foldl (onHeld carry) (cut r) s ≡ cut (foldl (onByteBy carry extended) r s)
-  cut-run [] r = refl
-  cut-run (b ∷ s) r = ap (λ (z : Progress). foldl (onHeld carry) z s) (cut-byte r b) ∙ cut-run s (onByteBy carry extended r b)
+  pub cut_run : (s : List ℕ) (r : Progress) → foldl (on_held carry) (cut r) s ≡ cut (foldl (on_byte_by carry extended) r s)
+  cut_run [] r = refl
+  cut_run (b ∷ s) r = ap (λ (z : Progress). foldl (on_held carry) z s) (cut_byte r b) ∙ cut_run s (on_byte_by carry extended r b)
 
 -- whether a line has begun is seen in what is held
-cut-empty : (s : List ℕ) → eqb (length (take heldBytes s)) 0 ≡ eqb (length s) 0
-cut-empty s = go (eqb (length s) 0) refl
+cut_empty : (s : List ℕ) → eqb (length (take held_bytes s)) 0 ≡ eqb (length s) 0
+cut_empty s = go (eqb (length s) 0) refl
   where
-    go : (t : Bool) → eqb (length s) 0 ≡ t → eqb (length (take heldBytes s)) 0 ≡ t
+    go : (t : Bool) → eqb (length s) 0 ≡ t → eqb (length (take held_bytes s)) 0 ≡ t
     go true e =
         let z : length s ≡ 0 = eqb-true _ _ e in
-        let n : length (take heldBytes s) ≡ 0 = omega (arith, length-take heldBytes s) in
+        let n : length (take held_bytes s) ≡ 0 = omega (arith, length-take held_bytes s) in
         eq-eqb _ _ n
     go false e =
         let z : length s ≡ 0 → ⊥ = eqb-false _ _ e in
-        ne_eqb (length (take heldBytes s)) 0 (λ n. z (omega (arith, n, length-take heldBytes s)))
+        ne_eqb (length (take held_bytes s)) 0 (λ n. z (omega (arith, n, length-take held_bytes s)))
 
-pub cut-last : (r : Progress) → lastLine (cut r) ≡ lastLine r
-unfolding lastLine
-cut-last r = rw (cut-empty r.line)
+pub cut_last : (r : Progress) → last_line (cut r) ≡ last_line r
+unfolding last_line
+cut_last r = rw (cut_empty r.line)
 
 -- how the hold takes a byte
-pub held-put : (line : List ℕ) (n b : ℕ) → n < heldBytes → length line ≡ heldBytes → take (n + 1) (set line n b) ≡ heldByte (take n line) b
-held-put line n b h l =
+pub held_put : (line : List ℕ) (n b : ℕ) → n < held_bytes → length line ≡ held_bytes → take (n + 1) (set line n b) ≡ held_byte (take n line) b
+held_put line n b h l =
     let w : length (take n line) ≡ n = length-take-le n line (omega arith) in
     let z : n < length line = omega arith in
-    rw (w, lt-ltb n heldBytes h, add-one, take-suc-set line n b z)
+    rw (w, lt-ltb n held_bytes h, add-one, take-suc-set line n b z)
 
-pub held-full : (line : List ℕ) (n b : ℕ) → n ≤ heldBytes → heldBytes ≤ n → length line ≡ heldBytes → take n line ≡ heldByte (take n line) b
-held-full line n b h g l =
+pub held_full : (line : List ℕ) (n b : ℕ) → n ≤ held_bytes → held_bytes ≤ n → length line ≡ held_bytes → take n line ≡ held_byte (take n line) b
+held_full line n b h g l =
     let w : length (take n line) ≡ n = length-take-le n line (omega arith) in
-    rw (w, le-ltb n heldBytes g)
+    rw (w, le-ltb n held_bytes g)

@@ -4,92 +4,92 @@ use Rattle.std.proofs.Common.{◌∙◌, sym, ap}
 use Rattle.std.proofs.Math.Bool.{true, false}
 use mathlib.Core.List.{List, [], ◌∷◌, ◌++◌, foldl}
 use Rattle.soundness.specs.Sound.{sound}
-use Rattle.soundness.specs.Laws.Estates.{empty-sound}
+use Rattle.soundness.specs.Laws.Estates.{empty_sound}
 use Rattle.calls.specs.View.{World}
 use Rattle.calls.specs.Step.{step, unchecked}
 use Rattle.calls.specs.Boot.{boot}
-use Rattle.calls.specs.Laws.Unchecked.{sound-unchecked}
-use Rattle.calls.specs.Laws.Sound.{step-sound}
-use Rattle.calls.specs.Laws.Booted.{boot-sound}
+use Rattle.calls.specs.Laws.Unchecked.{sound_unchecked}
+use Rattle.calls.specs.Laws.Sound.{step_sound}
+use Rattle.calls.specs.Laws.Booted.{boot_sound}
 use Rattle.calls.specs.declared.Answer.{Answer}
 use Rattle.calls.specs.declared.Answer.TheVariants.{Done, Refused}
 use Rattle.lines.specs.Grammar.{line_of}
-use Rattle.lines.specs.Reading.{Reading, answered, bootBy, call_by}
-use Rattle.replies.specs.Reply.{called, reply, stateAfter}
-use Rattle.stream.specs.Run.{Progress, lineDone, withLine, onByteBy, extended, onByte, header, started, lastLine, output}
-use Rattle.stream.specs.Feed.{heldByte, onHeld, cut, joined}
-use Rattle.stream.specs.Held.{cut-run, cut-last}
-use Rattle.stream.specs.Pieces.{writtenFor, pieces_whole}
+use Rattle.lines.specs.Reading.{Reading, answered, boot_by, call_by}
+use Rattle.replies.specs.Reply.{called, reply, state_after}
+use Rattle.stream.specs.Run.{Progress, line_done, with_line, on_byte_by, extended, on_byte, header, started, last_line, output}
+use Rattle.stream.specs.Feed.{held_byte, on_held, cut, joined}
+use Rattle.stream.specs.Held.{cut_run, cut_last}
+use Rattle.stream.specs.Pieces.{written_for, pieces_whole}
 
 -- on a sound state a line is answered the same without check 3
-reply-unchecked : (w : World) (l : Reading) → sound w.state ≡ true → reply unchecked w l ≡ reply step w l
+reply_unchecked : (w : World) (l : Reading) → sound w.state ≡ true → reply unchecked w l ≡ reply step w l
 unfolding reply
-reply-unchecked w (answered number) h = refl
-reply-unchecked w (bootBy d plan) h = refl
-reply-unchecked w (call_by d c) h = ap called (sym (sound-unchecked w d c h))
+reply_unchecked w (answered number) h = refl
+reply_unchecked w (boot_by d plan) h = refl
+reply_unchecked w (call_by d c) h = ap called (sym (sound_unchecked w d c h))
 
 -- and leaves a sound state
-reply-sound : (w : World) (l : Reading) → sound w.state ≡ true → sound (reply step w l).world.state ≡ true
+reply_sound : (w : World) (l : Reading) → sound w.state ≡ true → sound (reply step w l).world.state ≡ true
 unfolding reply
-reply-sound w (answered number) h = h
-reply-sound w (bootBy d plan) h = go (boot w.words d plan).outcome.answer
+reply_sound w (answered number) h = h
+reply_sound w (boot_by d plan) h = go (boot w.words d plan).outcome.answer
   where
-    go : (a : Answer) → sound (stateAfter w.state a (boot w.words d plan).outcome.state) ≡ true
-    go (Done v) = boot-sound w.words d plan
+    go : (a : Answer) → sound (state_after w.state a (boot w.words d plan).outcome.state) ≡ true
+    go (Done v) = boot_sound w.words d plan
     go (Refused why) = h
-reply-sound w (call_by d c) h = step-sound w d c h
+reply_sound w (call_by d c) h = step_sound w d c h
 
 module _ (more : List ℕ → ℕ → List ℕ) where
-  byte-unchecked : (r : Progress) (b : ℕ) → sound r.world.state ≡ true → onByteBy unchecked more r b ≡ onByteBy step more r b
-  unfolding onByteBy
-  byte-unchecked r b h = rw (reply-unchecked r.world (line_of r.line) h)
+  byte_unchecked : (r : Progress) (b : ℕ) → sound r.world.state ≡ true → on_byte_by unchecked more r b ≡ on_byte_by step more r b
+  unfolding on_byte_by
+  byte_unchecked r b h = rw (reply_unchecked r.world (line_of r.line) h)
 
-  byte-sound : (r : Progress) (b : ℕ) → sound r.world.state ≡ true → sound (onByteBy step more r b).world.state ≡ true
-  unfolding onByteBy
-  byte-sound r b h = go (eqb b 10)
+  byte_sound : (r : Progress) (b : ℕ) → sound r.world.state ≡ true → sound (on_byte_by step more r b).world.state ≡ true
+  unfolding on_byte_by
+  byte_sound r b h = go (eqb b 10)
     where
-      go : (t : Bool) → sound (cond t (lineDone r (reply step r.world (line_of r.line))) (withLine r (more r.line b))).world.state ≡ true
-      go true = reply-sound r.world (line_of r.line) h
+      go : (t : Bool) → sound (cond t (line_done r (reply step r.world (line_of r.line))) (with_line r (more r.line b))).world.state ≡ true
+      go true = reply_sound r.world (line_of r.line) h
       go false = h
 
   -- check 3 may be left out from a sound state on
-  pub run-unchecked : (s : List ℕ) (r : Progress) → sound r.world.state ≡ true → foldl (onByteBy unchecked more) r s ≡ foldl (onByteBy step more) r s
-  run-unchecked [] r h = refl
-  run-unchecked (b ∷ s) r h =
-      ap (λ (z : Progress). foldl (onByteBy unchecked more) z s) (byte-unchecked r b h) ∙ run-unchecked s (onByteBy step more r b) (byte-sound r b h)
+  pub run_unchecked : (s : List ℕ) (r : Progress) → sound r.world.state ≡ true → foldl (on_byte_by unchecked more) r s ≡ foldl (on_byte_by step more) r s
+  run_unchecked [] r h = refl
+  run_unchecked (b ∷ s) r h =
+      ap (λ (z : Progress). foldl (on_byte_by unchecked more) z s) (byte_unchecked r b h) ∙ run_unchecked s (on_byte_by step more r b) (byte_sound r b h)
 
-  run_sound : (s : List ℕ) (r : Progress) → sound r.world.state ≡ true → sound (foldl (onByteBy step more) r s).world.state ≡ true
+  run_sound : (s : List ℕ) (r : Progress) → sound r.world.state ≡ true → sound (foldl (on_byte_by step more) r s).world.state ≡ true
   run_sound [] r h = h
-  run_sound (b ∷ s) r h = run_sound s (onByteBy step more r b) (byte-sound r b h)
+  run_sound (b ∷ s) r h = run_sound s (on_byte_by step more r b) (byte_sound r b h)
 
-started-sound : sound started.world.state ≡ true
+started_sound : sound started.world.state ≡ true
 unfolding started
-started-sound = empty-sound
+started_sound = empty_sound
 
 -- THE STATE BEHIND ANY INPUT IS SOUND
-pub input-sound : (s : List ℕ) → sound (foldl onByte started s).world.state ≡ true
-input-sound s = run_sound extended s started started-sound
+pub input_sound : (s : List ℕ) → sound (foldl on_byte started s).world.state ≡ true
+input_sound s = run_sound extended s started started_sound
 
-started-cut : cut started ≡ started
+started_cut : cut started ≡ started
 unfolding started
-started-cut = refl
+started_cut = refl
 
 -- the run of the program, each line cut at the bytes that are held and without check 3
-program-run : (s : List ℕ) → foldl (onHeld unchecked) started s ≡ cut (foldl (onByteBy step extended) started s)
-program-run s =
-    ap (λ (z : Progress). foldl (onHeld unchecked) z s) (sym started-cut)
-    ∙ cut-run unchecked s started
-    ∙ ap cut (run-unchecked extended s started started-sound)
+program_run : (s : List ℕ) → foldl (on_held unchecked) started s ≡ cut (foldl (on_byte_by step extended) started s)
+program_run s =
+    ap (λ (z : Progress). foldl (on_held unchecked) z s) (sym started_cut)
+    ∙ cut_run unchecked s started
+    ∙ ap cut (run_unchecked extended s started started_sound)
 
-started-text : started.text ≡ header
+started_text : started.text ≡ header
 unfolding started
-started-text = refl
+started_text = refl
 
 -- WHAT THE PROGRAM WRITES FOR ANY PIECES OF AN INPUT: the header, what each piece is answered, and at the end the last line
-pub program-writes : (ps : List (List ℕ)) → header ++ writtenFor unchecked heldByte started ps ≡ output (joined ps)
+pub program_writes : (ps : List (List ℕ)) → header ++ written_for unchecked held_byte started ps ≡ output (joined ps)
 unfolding output
-program-writes ps =
-    ap (λ (z : List ℕ). z ++ writtenFor unchecked heldByte started ps) (sym started-text)
-    ∙ pieces_whole unchecked heldByte ps started
-    ∙ ap (λ (z : Progress). z.text ++ lastLine z) (program-run (joined ps))
-    ∙ ap (λ (z : List ℕ). (foldl (onByteBy step extended) started (joined ps)).text ++ z) (cut-last (foldl (onByteBy step extended) started (joined ps)))
+program_writes ps =
+    ap (λ (z : List ℕ). z ++ written_for unchecked held_byte started ps) (sym started_text)
+    ∙ pieces_whole unchecked held_byte ps started
+    ∙ ap (λ (z : Progress). z.text ++ last_line z) (program_run (joined ps))
+    ∙ ap (λ (z : List ℕ). (foldl (on_byte_by step extended) started (joined ps)).text ++ z) (cut_last (foldl (on_byte_by step extended) started (joined ps)))

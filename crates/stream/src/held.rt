@@ -3,7 +3,7 @@ ghost use Rattle.std.specs.Prelude.{◌≡◌, ◌≤◌, length, take};
 ghost use mathlib.Core.List.{foldl};
 ghost use Rattle.lines.specs.Reading.{reads};
 ghost use Rattle.lines.specs.Grammar.{line_of};
-ghost use Rattle.stream.specs.Feed.{heldBytes, heldByte};
+ghost use Rattle.stream.specs.Feed.{held_bytes, held_byte};
 
 use crate::HELD_BYTES;
 use calls::BOOT_NUMBERS;
@@ -11,8 +11,8 @@ use lines::{Line, read_line};
 
 // One byte more is held, where there is room.
 fn hold_byte(line: &mut [u8], n: usize, b: u8) -> usize
-    requires { (n ≤ heldBytes) × (length line.old ≡ heldBytes) }
-    ensures { (take result line.new ≡ heldByte (take n line.old) b) × (result ≤ heldBytes) }
+    requires { (n ≤ held_bytes) × (length line.old ≡ held_bytes) }
+    ensures { (take result line.new ≡ held_byte (take n line.old) b) × (result ≤ held_bytes) }
 {
     if n < HELD_BYTES {
         line[n] = b;
@@ -23,8 +23,8 @@ fn hold_byte(line: &mut [u8], n: usize, b: u8) -> usize
 
 // The bytes of s are held behind the n that are.
 pub fn hold(line: &mut [u8], n: usize, s: &[u8]) -> usize
-    requires { (n ≤ heldBytes) × (length line.old ≡ heldBytes) }
-    ensures { (take result line.new ≡ foldl heldByte (take n line.old) s.now) × (result ≤ heldBytes) }
+    requires { (n ≤ held_bytes) × (length line.old ≡ held_bytes) }
+    ensures { (take result line.new ≡ foldl held_byte (take n line.old) s.now) × (result ≤ held_bytes) }
 {
     let mut m = n;
     let mut i = 0;
@@ -37,8 +37,8 @@ pub fn hold(line: &mut [u8], n: usize, s: &[u8]) -> usize
 
 // The line that ends with these bytes: where nothing is held, it is read where it lies.
 pub fn read_one(line: &mut [u8], held: usize, rest: &[u8], plan: &mut [u64; BOOT_NUMBERS]) -> Line
-    requires { (held ≤ heldBytes) × (length line.old ≡ heldBytes) }
-    ensures { reads result plan.new ≡ line_of (foldl heldByte (take held line.old) rest.now) }
+    requires { (held ≤ held_bytes) × (length line.old ≡ held_bytes) }
+    ensures { reads result plan.new ≡ line_of (foldl held_byte (take held line.old) rest.now) }
 {
     if held == 0 {
         return read_line(rest, plan);

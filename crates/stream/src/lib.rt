@@ -2,8 +2,8 @@
 ghost use Rattle.std.specs.Prelude.{◌≡◌, true, ◌≤◌, min, length, take};
 ghost use mathlib.Core.List.{foldl};
 ghost use Rattle.calls.specs.Step.{unchecked};
-ghost use Rattle.stream.specs.Run.{nextNumber, header};
-ghost use Rattle.stream.specs.Feed.{startFeed, progressOf, finishedText, finishedEnd, room_for, stopped, heldBytes, onHeld};
+ghost use Rattle.stream.specs.Run.{next_number, header};
+ghost use Rattle.stream.specs.Feed.{start_feed, progress_of, finished_text, finished_end, room_for, stopped, held_bytes, on_held};
 
 use apply::domain_call;
 use calls::BOOT_NUMBERS;
@@ -37,7 +37,7 @@ pub struct Feed {
 }
 
 fn next_number(n: u64) -> u64
-    ensures { result ≡ nextNumber n }
+    ensures { result ≡ next_number n }
 {
     if n < 18446744073709551615 {
         return n + 1;
@@ -57,7 +57,7 @@ pub fn header() -> [u8; 18]
 
 // Where the program stands at first: no objects, line 1.
 pub fn start() -> Feed
-    ensures { result ≡ startFeed }
+    ensures { result ≡ start_feed }
 {
     Feed {
         state: empty_state(),
@@ -71,7 +71,7 @@ pub fn start() -> Feed
 
 // A last line without its line feed, answered by 1 into an empty buffer. Answers where the text ends.
 pub fn finish(f: Feed, out: &mut [u8]) -> usize
-    ensures { (out.new ≡ finishedText f out.old) × (result ≡ finishedEnd f out.old) × (result ≤ length out.old) }
+    ensures { (out.new ≡ finished_text f out.old) × (result ≡ finished_end f out.old) × (result ≤ length out.old) }
 {
     if f.held == 0 {
         return 0;
@@ -111,8 +111,8 @@ fn state_of(table: Table, domains: [Domain; 4], accounts: Accounts) -> State
 
 // Takes bytes of a piece, answers the lines that end there into `out`, and stops where the longest answer has no room.
 pub fn feed_piece(f: Feed, store: &mut [u64], piece: &[u8], out: &mut [u8]) -> Feed
-    ensures out_after { progressOf result store.new out.new ≡ foldl (onHeld unchecked) (progressOf f store.old out.old) (take result.taken piece.now) }
-    ensures taken_in_bounds { (result.taken ≤ length piece.now) × (stopped (length piece.now) (length out.old) result.taken result.at ≡ true) × (result.at ≤ length out.old) × (result.held ≤ heldBytes) }
+    ensures out_after { progress_of result store.new out.new ≡ foldl (on_held unchecked) (progress_of f store.old out.old) (take result.taken piece.now) }
+    ensures taken_in_bounds { (result.taken ≤ length piece.now) × (stopped (length piece.now) (length out.old) result.taken result.at ≡ true) × (result.at ≤ length out.old) × (result.held ≤ held_bytes) }
 {
     let s = f.state;
     let mut table = s.table;

@@ -1,9 +1,9 @@
 // Answers as text.
 ghost use Rattle.std.specs.Prelude.{◌≡◌, [], ◌∷◌, ◌+◌, ◌*◌, ◌<◌, ◌≤◌, length};
-ghost use Rattle.calls.specs.Answers.{number_of, value_of, valuesFrom};
-ghost use Rattle.text.specs.Decimal.{decimal, lastDigits, Places};
+ghost use Rattle.calls.specs.Answers.{number_of, value_of, values_from};
+ghost use Rattle.text.specs.Decimal.{decimal, last_digits, Places};
 ghost use Rattle.text.specs.Puts.{Put};
-ghost use Rattle.text.specs.Answer.{fieldsText, answerLine, shownCount, printed, printedEnd};
+ghost use Rattle.text.specs.Answer.{fields_text, answer_line, shown_count, printed, printed_end};
 
 use calls::replies::refusal_number;
 use calls::{Answer, Fields};
@@ -35,7 +35,7 @@ fn places(n: u64) -> usize
 // The last k digits of n, put from the last ones backwards, two a turn.
 fn put_digits(out: &mut [u8], at: usize, n: u64, k: usize) -> usize
     requires { at + k ≤ length out.old }
-    ensures { Put out.old at (lastDigits k n) out.new result × (result ≡ at + k) }
+    ensures { Put out.old at (last_digits k n) out.new result × (result ≡ at + k) }
 {
     let mut rest = n;
     let mut i = k;
@@ -76,7 +76,7 @@ fn put_field(out: &mut [u8], at: usize, v: u64) -> usize
 // A comma and a number for each value.
 fn put_fields(out: &mut [u8], at: usize, values: &[u64]) -> usize
     requires { at + 21 * length values.now ≤ length out.old }
-    ensures { Put out.old at (fieldsText values.now) out.new result × (result ≤ at + 21 * length values.now) }
+    ensures { Put out.old at (fields_text values.now) out.new result × (result ≤ at + 21 * length values.now) }
 {
     let mut m = at;
     let mut i = 0;
@@ -90,7 +90,7 @@ fn put_fields(out: &mut [u8], at: usize, values: &[u64]) -> usize
 // A whole line, where there is room.
 fn put_all(out: &mut [u8], at: usize, line: u64, answer: u64, values: &[u64]) -> usize
     requires { at + (42 + 21 * length values.now) ≤ length out.old }
-    ensures { Put out.old at (answerLine line answer values.now) out.new result }
+    ensures { Put out.old at (answer_line line answer values.now) out.new result }
 {
     let a = put_number(out, at, line);
     let b = put_field(out, a, answer);
@@ -100,7 +100,7 @@ fn put_all(out: &mut [u8], at: usize, line: u64, answer: u64, values: &[u64]) ->
 
 // Puts a line at `at`: its number, the answer number and the values. Answers where it ends.
 pub fn put_line(out: &mut [u8], at: usize, line: u64, answer: u64, values: &[u64]) -> usize
-    ensures { (out.new ≡ printed out.old at line answer values.now) × (result ≡ printedEnd out.old at line answer values.now) }
+    ensures { (out.new ≡ printed out.old at line answer values.now) × (result ≡ printed_end out.old at line answer values.now) }
 {
     let length = out.len();
     if length < at {
@@ -136,7 +136,7 @@ pub fn answer_value(a: Answer) -> u64
 
 // How many of the eleven fields are shown.
 fn field_count(count: u64) -> usize
-    ensures { (result ≡ shownCount count) × (result ≤ 11) }
+    ensures { (result ≡ shown_count count) × (result ≤ 11) }
 {
     if count > 11 {
         return 11;
@@ -146,7 +146,7 @@ fn field_count(count: u64) -> usize
 
 // Puts the line of an answer: the fields of a done GT, else the value.
 pub fn put_answer(out: &mut [u8], at: usize, line: u64, a: Answer, fields: Fields) -> usize
-    ensures { (out.new ≡ printed out.old at line (number_of a) (valuesFrom a fields)) × (result ≡ printedEnd out.old at line (number_of a) (valuesFrom a fields)) }
+    ensures { (out.new ≡ printed out.old at line (number_of a) (values_from a fields)) × (result ≡ printed_end out.old at line (number_of a) (values_from a fields)) }
 {
     let answer = answer_number(a);
     if fields.count == 0 {

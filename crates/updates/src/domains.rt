@@ -1,13 +1,13 @@
 // Saving and restoring a protection domain.
 ghost use Rattle.std.specs.Prelude.{◌≡◌};
-ghost use Rattle.state.specs.Update.{saveDomain, restoreDomain};
+ghost use Rattle.state.specs.Update.{save_domain, restore_domain};
 
 use crate::frames::empty_frame;
 use state::{Domain, Frame};
 
 // The active frame is saved, and f takes its place. With four saved frames nothing changes.
 pub fn save_domain(m: Domain, f: Frame) -> Domain
-    ensures { result ≡ saveDomain m f }
+    ensures { result ≡ save_domain m f }
 {
     let n = m.depth;
     if 4 <= n {
@@ -23,7 +23,7 @@ pub fn save_domain(m: Domain, f: Frame) -> Domain
 
 // The frame saved last comes back, and its place is cleared. With none saved, or more than four, nothing changes.
 pub fn restore_domain(m: Domain) -> Domain
-    ensures { result ≡ restoreDomain m }
+    ensures { result ≡ restore_domain m }
 {
     let n = m.depth;
     if n == 0 {

@@ -1,8 +1,8 @@
 // An estate with an object more, less or another, and the parts of a state put back.
 ghost use Rattle.std.specs.Prelude.{◌≡◌};
-ghost use Rattle.state.specs.Places.{emptyState};
-ghost use Rattle.state.specs.Lookup.{placeAbove};
-ghost use Rattle.state.specs.Update.{withObject, insertObject, removeObject, withEstate, withDomain};
+ghost use Rattle.state.specs.Places.{empty_state};
+ghost use Rattle.state.specs.Lookup.{place_above};
+ghost use Rattle.state.specs.Update.{with_object, insert_object, remove_object, with_estate, with_domain};
 
 use crate::frames::empty_frame;
 use state::objects::free_object;
@@ -10,7 +10,7 @@ use state::{Accounts, Domain, Estate, Object, State, Table};
 
 // The place for a new object with the base: that of the first object with a higher base, or else the first free one.
 fn place_above(e: Estate, base: u8) -> usize
-    ensures { result ≡ placeAbove e base }
+    ensures { result ≡ place_above e base }
 {
     let mut k = 0;
     while k < 8 {
@@ -25,7 +25,7 @@ fn place_above(e: Estate, base: u8) -> usize
 
 // An object more, before the first with a higher base. Where there is no room, the last gives way, or the new one finds no place.
 pub fn insert_object(e: Estate, o: Object) -> Estate
-    ensures { result ≡ insertObject e o }
+    ensures { result ≡ insert_object e o }
 {
     let at = place_above(e, o.base);
     if 8 <= at {
@@ -44,7 +44,7 @@ pub fn insert_object(e: Estate, o: Object) -> Estate
 
 // An object less; those behind it close the gap. Past the last place nothing changes.
 pub fn remove_object(e: Estate, at: usize) -> Estate
-    ensures { result ≡ removeObject e at }
+    ensures { result ≡ remove_object e at }
 {
     if 8 <= at {
         return e;
@@ -62,7 +62,7 @@ pub fn remove_object(e: Estate, at: usize) -> Estate
 
 // Another object at a place. Past the last place nothing changes.
 pub fn with_object(e: Estate, k: usize, o: Object) -> Estate
-    ensures { result ≡ withObject e k o }
+    ensures { result ≡ with_object e k o }
 {
     if 8 <= k {
         return e;
@@ -74,7 +74,7 @@ pub fn with_object(e: Estate, k: usize, o: Object) -> Estate
 
 // Another estate. Past the last nothing changes.
 pub fn with_estate(s: State, d: usize, e: Estate) -> State
-    ensures { result ≡ withEstate s d e }
+    ensures { result ≡ with_estate s d e }
 {
     if 4 <= d {
         return s;
@@ -88,7 +88,7 @@ pub fn with_estate(s: State, d: usize, e: Estate) -> State
 
 // Another domain. Past the last nothing changes.
 pub fn with_domain(s: State, d: usize, m: Domain) -> State
-    ensures { result ≡ withDomain s d m }
+    ensures { result ≡ with_domain s d m }
 {
     if 4 <= d {
         return s;
@@ -100,7 +100,7 @@ pub fn with_domain(s: State, d: usize, m: Domain) -> State
 
 // No object, no slot, and no account that may be charged.
 pub fn empty_state() -> State
-    ensures { result ≡ emptyState }
+    ensures { result ≡ empty_state }
 {
     let e = Estate {
         objects: [free_object(); 8],

@@ -1,14 +1,14 @@
 // Slots and locks of a frame.
 ghost use Rattle.std.specs.Prelude.{◌≡◌, ◌<◌};
-ghost use Rattle.state.specs.Places.{emptyFrame};
-ghost use Rattle.state.specs.Update.{slotIn, insertSlot, slotOut, removeSlot, lockSlot, mergeList, onlyList};
+ghost use Rattle.state.specs.Places.{empty_frame};
+ghost use Rattle.state.specs.Update.{slot_in, insert_slot, slot_out, remove_slot, lock_slot, merge_list, only_list};
 
 use state::{Capability, Frame};
 
 // What stands at k once c is put in at `at`.
 fn slot_in(f: Frame, at: u8, c: Capability, k: usize) -> Capability
     requires { k < 8 }
-    ensures { result ≡ slotIn f at c k }
+    ensures { result ≡ slot_in f at c k }
 {
     let place = at as usize;
     if k < place {
@@ -22,7 +22,7 @@ fn slot_in(f: Frame, at: u8, c: Capability, k: usize) -> Capability
 
 // A slot more at a place; later slots shift down. A full frame stays as it is.
 pub fn insert_slot(f: Frame, at: u8, c: Capability) -> Frame
-    ensures { result ≡ insertSlot f at c }
+    ensures { result ≡ insert_slot f at c }
 {
     let n = f.count;
     if 8 <= n {
@@ -48,7 +48,7 @@ pub fn insert_slot(f: Frame, at: u8, c: Capability) -> Frame
 // What stands at k once the slot at `at` is gone.
 fn slot_out(f: Frame, at: u8, k: usize) -> Capability
     requires { k < 8 }
-    ensures { result ≡ slotOut f at k }
+    ensures { result ≡ slot_out f at k }
 {
     if k < at as usize {
         return f.slots[k];
@@ -64,7 +64,7 @@ fn slot_out(f: Frame, at: u8, k: usize) -> Capability
 
 // A slot less; later slots shift up. A slot that does not stand changes nothing.
 pub fn remove_slot(f: Frame, at: u8) -> Frame
-    ensures { result ≡ removeSlot f at }
+    ensures { result ≡ remove_slot f at }
 {
     let n = f.count;
     if n <= at {
@@ -89,7 +89,7 @@ pub fn remove_slot(f: Frame, at: u8) -> Frame
 
 // Locks a slot and all before it; 255 sets the whole lock.
 pub fn lock_slot(f: Frame, slot: u8) -> Frame
-    ensures { result ≡ lockSlot f slot }
+    ensures { result ≡ lock_slot f slot }
 {
     let mut g = f;
     if slot == 255 {
@@ -106,7 +106,7 @@ pub fn lock_slot(f: Frame, slot: u8) -> Frame
 
 // A registered Clist put in behind what is locked, or second where nothing is.
 pub fn merge_list(f: Frame, c: Capability) -> Frame
-    ensures { result ≡ mergeList f c }
+    ensures { result ≡ merge_list f c }
 {
     let n = f.locked;
     if n != 0 {
@@ -120,7 +120,7 @@ pub fn merge_list(f: Frame, c: Capability) -> Frame
 
 // A registered Clist alone.
 pub fn only_list(c: Capability) -> Frame
-    ensures { result ≡ onlyList c }
+    ensures { result ≡ only_list c }
 {
     let none = Capability {
         page: 0,
@@ -136,7 +136,7 @@ pub fn only_list(c: Capability) -> Frame
 
 // No slot and no lock: what an unused place for a frame holds.
 pub fn empty_frame() -> Frame
-    ensures { result ≡ emptyFrame }
+    ensures { result ≡ empty_frame }
 {
     Frame {
         slots: [Capability {

@@ -1,7 +1,7 @@
 // Another object: new, with a password more or less, or with another registration.
 ghost use Rattle.std.specs.Prelude.{◌≡◌, set};
 ghost use Rattle.bounded.specs.Fill.{tabulate};
-ghost use Rattle.state.specs.Update.{newObject, withPasswords, addPassword, passwordOut, dropPassword, withRegistration};
+ghost use Rattle.state.specs.Update.{new_object, with_passwords, add_password, password_out, drop_password, with_registration};
 
 use rights::Rights;
 use state::objects::{free_password_place, free_registration, place_of};
@@ -9,7 +9,7 @@ use state::{Object, Password, Registration};
 
 // A new object on an account, with one password in the owner's mode.
 pub fn new_object(base: u8, pages: u8, word: u64, account: u8) -> Object
-    ensures { result ≡ newObject base pages word account }
+    ensures { result ≡ new_object base pages word account }
 {
     let none = Password { word: 0, mode: 0 };
     Object {
@@ -31,7 +31,7 @@ pub fn new_object(base: u8, pages: u8, word: u64, account: u8) -> Object
 
 // Another password at a place. Past the last place nothing changes.
 fn with_password(o: Object, k: usize, p: Password) -> Object
-    ensures { result ≡ withPasswords o (set o.passwords k p) }
+    ensures { result ≡ with_passwords o (set o.passwords k p) }
 {
     if 4 <= k {
         return o;
@@ -43,7 +43,7 @@ fn with_password(o: Object, k: usize, p: Password) -> Object
 
 // A password more, behind the last. With four nothing changes.
 pub fn add_password(o: Object, word: u64, mode: u8) -> Object
-    ensures { result ≡ addPassword o word mode }
+    ensures { result ≡ add_password o word mode }
 {
     with_password(
         o,
@@ -57,7 +57,7 @@ pub fn add_password(o: Object, word: u64, mode: u8) -> Object
 
 // Other ordinary passwords.
 fn with_passwords(o: Object, passwords: [Password; 4]) -> Object
-    ensures { result ≡ withPasswords o passwords }
+    ensures { result ≡ with_passwords o passwords }
 {
     let mut r = o;
     r.passwords = passwords;
@@ -66,7 +66,7 @@ fn with_passwords(o: Object, passwords: [Password; 4]) -> Object
 
 // A password less; the younger ones close the gap. Past the last place nothing changes.
 fn without_password(o: Object, at: usize) -> Object
-    ensures { result ≡ withPasswords o (tabulate 4 (passwordOut o at)) }
+    ensures { result ≡ with_passwords o (tabulate 4 (password_out o at)) }
 {
     let p = o.passwords[0];
     let q = o.passwords[1];
@@ -90,7 +90,7 @@ fn without_password(o: Object, at: usize) -> Object
 
 // Drops a password, or the registration that has it. An absent password changes nothing.
 pub fn drop_password(o: Object, word: u64) -> Object
-    ensures { result ≡ dropPassword o word }
+    ensures { result ≡ drop_password o word }
 {
     if word == 0 {
         return o;
@@ -104,7 +104,7 @@ pub fn drop_password(o: Object, word: u64) -> Object
 
 // Another registration.
 pub fn with_registration(o: Object, g: Registration) -> Object
-    ensures { result ≡ withRegistration o g }
+    ensures { result ≡ with_registration o g }
 {
     let mut r = o;
     r.registration = g;

@@ -2,8 +2,8 @@ use borrow.Author.Rules.{rules}
 use Rattle.access_calls.proofs.access.Statement.{statement}
 use Rattle.access_calls.proofs.access.Tie as tie
 
-pub access-spec : {M : Type 1} → statement M
-access-spec =
+pub access_spec : {M : Type 1} → statement M
+access_spec =
     tie.close
     (tie.spec
     (λ c. search rules) (λ c κs. search rules) (λ c. search rules) (λ c. rw c.before.before.before.call.given.1 c.read.ensures)

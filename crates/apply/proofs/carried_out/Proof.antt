@@ -3,8 +3,8 @@ use borrow.Author.Rules.{rules}
 use Rattle.apply.proofs.carried_out.Statement.{statement}
 use Rattle.apply.proofs.carried_out.Tie as tie
 
-pub carried-out-spec : {M : Type 1} → statement M
-carried-out-spec =
+pub carried_out_spec : {M : Type 1} → statement M
+carried_out_spec =
     tie.close
     (tie.spec (λ c. search rules) (λ c. search rules)
     (λ c. search rules) (λ c κs. search rules) (λ c κs. search rules) (λ c. search rules)

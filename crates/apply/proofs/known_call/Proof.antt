@@ -2,8 +2,8 @@ use borrow.Author.Rules.{rules}
 use Rattle.apply.proofs.known_call.Statement.{statement}
 use Rattle.apply.proofs.known_call.Tie as tie
 
-pub known-call-spec : {M : Type 1} → statement M
-known-call-spec =
+pub known_call_spec : {M : Type 1} → statement M
+known_call_spec =
     tie.close
     (tie.spec
     (λ c. search rules) (λ c κs. search rules) (λ c. search rules) (λ c. rw c.before.before.before.before.before.call.given.1 (c.before.before.obj-create.ensures _))

@@ -4,8 +4,8 @@ use borrow.Author.Rules.{rules}
 use Rattle.boot.proofs.booted.Statement.{statement}
 use Rattle.boot.proofs.booted.Tie as tie
 
-pub booted-spec : {M : Type 1} → statement M
-booted-spec =
+pub booted_spec : {M : Type 1} → statement M
+booted_spec =
     tie.close
     (tie.spec (λ c κs. search rules) (λ c κs. search rules) (λ c κs. search rules)
     (λ c.

@@ -3,8 +3,8 @@ use borrow.Author.Tests.{not-true, not-false}
 use Rattle.byte_calls.proofs.keep_state.Statement.{statement}
 use Rattle.byte_calls.proofs.keep_state.Tie as tie
 
-pub keep-state-spec : {M : Type 1} → statement M
-keep-state-spec =
+pub keep_state_spec : {M : Type 1} → statement M
+keep_state_spec =
     tie.close
     (tie.spec
     (λ c. rw (not-true c.before.before.args.changed c.if1.true))

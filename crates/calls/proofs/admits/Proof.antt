@@ -3,6 +3,6 @@ use Rattle.calls.specs.Step.{admitted}
 use Rattle.calls.proofs.admits.Statement.{statement}
 use Rattle.calls.proofs.admits.Tie as tie
 
-pub admits-spec : {M : Type 1} → statement M
+pub admits_spec : {M : Type 1} → statement M
 unfolding admitted
-admits-spec = tie.close (tie.spec (λ c κs. search rules) (λ c. cc))
+admits_spec = tie.close (tie.spec (λ c κs. search rules) (λ c. cc))

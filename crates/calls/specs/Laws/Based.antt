@@ -2,7 +2,7 @@
 use Rattle.std.specs.Prelude.{ℕ, ◌/◌, ◌≡◌, refl, true, List, [], ◌∷◌, ltb}
 use Rattle.std.proofs.Math.Option.{Option, none, some}
 use Rattle.std.proofs.Common.{arith, ltb-true}
-use Rattle.state.specs.Places.{noAccounts}
+use Rattle.state.specs.Places.{no_accounts}
 use Rattle.state.specs.declared.Estate.{Estate}
 use Rattle.state.specs.declared.Table.{Table}
 use Rattle.state.specs.declared.Frame.{Frame}
@@ -12,13 +12,13 @@ use Rattle.judge.specs.Judged.{judged}
 use Rattle.judge.specs.declared.Target.TheVariants.{Base}
 use Rattle.judge.specs.declared.Judgement.{Judgement}
 use Rattle.judge.specs.declared.Judgement.TheVariants.{Granted, Refused}
-use Rattle.calls.specs.View.{rights, Found, View, firstFailing, foundBy, passes}
-use Rattle.calls.specs.Answers.{noFields}
+use Rattle.calls.specs.View.{rights, Found, View, first_failing, found_by, passes}
+use Rattle.calls.specs.Answers.{no_fields}
 use Rattle.calls.specs.Changes.{estate}
 use Rattle.calls.specs.Rules.{rule, in_range, unlocked, wanted, presented, value, fields, late, changes}
 use Rattle.calls.specs.Step.{world}
 use Rattle.calls.specs.Parts.{Entered, unaltered, altered, Alters}
-use Rattle.calls.specs.Laws.Parts.{parts, view_of, alters-late, alters-done}
+use Rattle.calls.specs.Laws.Parts.{parts, view_of, alters_late, alters_done}
 use Rattle.calls.specs.declared.Call.TheVariants.{OnObject}
 use Rattle.calls.specs.declared.ObjectCall.{ObjectCall}
 use Rattle.calls.specs.declared.ObjectCall.TheVariants.{Create, Delete, AddPassword, DropPassword, Register}
@@ -28,7 +28,7 @@ use Rattle.calls.specs.declared.Refusal.{Refusal}
 -- of every call on objects: its value is 0, and it has no fields
 record Plain (c : ObjectCall) : Type 0 where
   pub zero : (v : View) → value (OnObject c) v ≡ 0
-  pub bare : (v : View) → fields (OnObject c) v ≡ noFields
+  pub bare : (v : View) → fields (OnObject c) v ≡ no_fields
 
 plain : (c : ObjectCall) → Plain c
 unfolding rule
@@ -40,7 +40,7 @@ plain (Register b k l es) = record { zero = λ v. refl; bare = λ v. refl }
 
 -- what the search for the object with a base gives, by the judgement
 abbrev pub based : Table → List ℕ → ℕ → Judgement → Option Found
-based t words b j = foundBy (world (parts t noAccounts) words) (Base b) j
+based t words b j = found_by (world (parts t no_accounts) words) (Base b) j
 
 -- a view of a call: the judgement, and whether what it presents is live
 pub record Sees (t : Table) (words : List ℕ) (c : ObjectCall) (b : ℕ) (j : Judgement) (v : View) : Type 0 where
@@ -53,18 +53,18 @@ module _ (t : Table) (x : Accounts) (d : ℕ) (f : Frame) (words : List ℕ) (c 
   sees : (m : Domain) → m.active ≡ f → Sees t words c b j (view_of t x words d m (OnObject c))
   sees m q = record { found = rw (w, q, ← p, g) (told j); live = refl }
     where
-      told : (i : Judgement) → foundBy (world (parts t x) words) (Base b) i ≡ based t words b i
+      told : (i : Judgement) → found_by (world (parts t x) words) (Base b) i ≡ based t words b i
       told (Granted pair) = refl
       told Refused = refl
 
   -- refused by the judgement, or behind it
-  pub based-late : {y : Altered} {why : Refusal} → ((v : View) → Sees t words c b j v → firstFailing (late d (OnObject c) v) ≡ some why) → y ≡ unaltered t why
+  pub based_late : {y : Altered} {why : Refusal} → ((v : View) → Sees t words c b j v → first_failing (late d (OnObject c) v) ≡ some why) → y ≡ unaltered t why
       → Alters t x d f words c y words
-  based-late l h = alters-late t x d f words c e n u (λ m q. l _ (sees m q)) h
+  based_late l h = alters_late t x d f words c e n u (λ m q. l _ (sees m q)) h
 
   -- done: its estate becomes another
-  pub based-done : {y : Altered} (z : Estate) → ltb b 128 ≡ true → ((v : View) → Sees t words c b j v → firstFailing (late d (OnObject c) v) ≡ none)
+  pub based_done : {y : Altered} (z : Estate) → ltb b 128 ≡ true → ((v : View) → Sees t words c b j v → first_failing (late d (OnObject c) v) ≡ none)
       → ((v : View) → Sees t words c b j v → changes d (OnObject c) v ≡ estate (b / 32) z ∷ []) → y ≡ altered t b z → Alters t x d f words c y words
-  based-done z i l k h =
-      alters-done t x d f words c e (rw (h, i)) (rw (h, i) (let m = ltb-true b 128 i in omega arith)) n u (λ m q. l _ (sees m q))
+  based_done z i l k h =
+      alters_done t x d f words c e (rw (h, i)) (rw (h, i) (let m = ltb-true b 128 i in omega arith)) n u (λ m q. l _ (sees m q))
       (λ m q s. rw (h, i, k _ (sees m q), (plain c).zero, (plain c).bare))

@@ -4,18 +4,18 @@ use Rattle.std.proofs.Math.Path.{refl}
 use Rattle.std.proofs.Common.{ap, zero-add, suc-add, arith}
 use Rattle.std.proofs.Math.Option.{Option, none, some}
 use Rattle.std.proofs.Math.Nat.{suc_inj}
-use Rattle.state.specs.Places.{domainAt}
+use Rattle.state.specs.Places.{domain_at}
 use Rattle.state.specs.declared.Frame.{Frame}
 use Rattle.state.specs.declared.State.{State}
-use Rattle.judge.specs.Laws.Behind.{SameToEnds, behind-ignored}
+use Rattle.judge.specs.Laws.Behind.{SameToEnds, behind_ignored}
 use Rattle.judge.specs.declared.Judgement.{Judgement}
 use Rattle.judge.specs.declared.Judgement.TheVariants.{Granted, Refused}
 use Rattle.calls.specs.Answers.{number_of}
-use Rattle.calls.specs.View.{Want, nothing, rights, View, firstFailing}
-use Rattle.calls.specs.Changes.{zeroed, applyAll}
+use Rattle.calls.specs.View.{Want, nothing, rights, View, first_failing}
+use Rattle.calls.specs.Changes.{zeroed, apply_all}
 use Rattle.calls.specs.Rules.{wanted, early, late, checks, view, value, fields, changes}
-use Rattle.calls.specs.Step.{Result, world, concluded, storeCheck, soundCheck, stepBy, step}
-use Rattle.calls.specs.Laws.Viewed.{judgedOn, search-given, sees}
+use Rattle.calls.specs.Step.{Result, world, concluded, store_check, sound_check, step_by, step}
+use Rattle.calls.specs.Laws.Viewed.{judged_on, search_given, sees}
 use Rattle.calls.specs.declared.Call.{Call}
 use Rattle.calls.specs.declared.Call.TheVariants.{OnStore, OnObject, OnDomain}
 use Rattle.calls.specs.declared.Access.{Access}
@@ -28,34 +28,34 @@ use Rattle.calls.specs.declared.Refusal.{Refusal}
 use Rattle.calls.specs.declared.Answer.TheVariants.{Done}
 
 -- two stores of the same length that agree at a place agree there once both are written alike
-set-alike : (ws ws' : List ℕ) (a x b : ℕ) → length ws ≡ length ws' → get_or ws b 0 ≡ get_or ws' b 0 → get_or (set ws a x) b 0 ≡ get_or (set ws' a x) b 0
-set-alike [] [] a x b n h = h
-set-alike [] (y' ∷ ws') a x b n h = absurd (omega arith)
-set-alike (y ∷ ws) [] a x b n h = absurd (omega arith)
-set-alike (y ∷ ws) (y' ∷ ws') ℕ.zero x ℕ.zero n h = refl
-set-alike (y ∷ ws) (y' ∷ ws') ℕ.zero x (suc b) n h = h
-set-alike (y ∷ ws) (y' ∷ ws') (suc a) x ℕ.zero n h = h
-set-alike (y ∷ ws) (y' ∷ ws') (suc a) x (suc b) n h = set-alike ws ws' a x b (suc_inj n) h
+set_alike : (ws ws' : List ℕ) (a x b : ℕ) → length ws ≡ length ws' → get_or ws b 0 ≡ get_or ws' b 0 → get_or (set ws a x) b 0 ≡ get_or (set ws' a x) b 0
+set_alike [] [] a x b n h = h
+set_alike [] (y' ∷ ws') a x b n h = absurd (omega arith)
+set_alike (y ∷ ws) [] a x b n h = absurd (omega arith)
+set_alike (y ∷ ws) (y' ∷ ws') ℕ.zero x ℕ.zero n h = refl
+set_alike (y ∷ ws) (y' ∷ ws') ℕ.zero x (suc b) n h = h
+set_alike (y ∷ ws) (y' ∷ ws') (suc a) x ℕ.zero n h = h
+set_alike (y ∷ ws) (y' ∷ ws') (suc a) x (suc b) n h = set_alike ws ws' a x b (suc_inj n) h
 
 -- and once both are zeroed alike
-zeros-alike : (n : ℕ) (ws ws' : List ℕ) (b : ℕ) → length ws ≡ length ws' → get_or ws b 0 ≡ get_or ws' b 0
+zeros_alike : (n : ℕ) (ws ws' : List ℕ) (b : ℕ) → length ws ≡ length ws' → get_or ws b 0 ≡ get_or ws' b 0
     → get_or (replicate n 0 ++ drop n ws) b 0 ≡ get_or (replicate n 0 ++ drop n ws') b 0
-zeros-alike ℕ.zero ws ws' b l h = h
-zeros-alike (suc n) [] [] b l h = refl
-zeros-alike (suc n) [] (y' ∷ ws') b l h = absurd (omega arith)
-zeros-alike (suc n) (y ∷ ws) [] b l h = absurd (omega arith)
-zeros-alike (suc n) (y ∷ ws) (y' ∷ ws') ℕ.zero l h = refl
-zeros-alike (suc n) (y ∷ ws) (y' ∷ ws') (suc b) l h = zeros-alike n ws ws' b (suc_inj l) h
+zeros_alike ℕ.zero ws ws' b l h = h
+zeros_alike (suc n) [] [] b l h = refl
+zeros_alike (suc n) [] (y' ∷ ws') b l h = absurd (omega arith)
+zeros_alike (suc n) (y ∷ ws) [] b l h = absurd (omega arith)
+zeros_alike (suc n) (y ∷ ws) (y' ∷ ws') ℕ.zero l h = refl
+zeros_alike (suc n) (y ∷ ws) (y' ∷ ws') (suc b) l h = zeros_alike n ws ws' b (suc_inj l) h
 
-zeroed-alike : (a n : ℕ) (ws ws' : List ℕ) (b : ℕ) → length ws ≡ length ws' → get_or ws b 0 ≡ get_or ws' b 0
+zeroed_alike : (a n : ℕ) (ws ws' : List ℕ) (b : ℕ) → length ws ≡ length ws' → get_or ws b 0 ≡ get_or ws' b 0
     → get_or (zeroed a n ws) b 0 ≡ get_or (zeroed a n ws') b 0
 unfolding zeroed
-zeroed-alike ℕ.zero n ws ws' b l h = rw zero-add (zeros-alike n ws ws' b l h)
-zeroed-alike (suc a) n [] [] b l h = refl
-zeroed-alike (suc a) n [] (y' ∷ ws') b l h = absurd (omega arith)
-zeroed-alike (suc a) n (y ∷ ws) [] b l h = absurd (omega arith)
-zeroed-alike (suc a) n (y ∷ ws) (y' ∷ ws') ℕ.zero l h = h
-zeroed-alike (suc a) n (y ∷ ws) (y' ∷ ws') (suc b) l h = rw suc-add (zeroed-alike a n ws ws' b (suc_inj l) h)
+zeroed_alike ℕ.zero n ws ws' b l h = rw zero-add (zeros_alike n ws ws' b l h)
+zeroed_alike (suc a) n [] [] b l h = refl
+zeroed_alike (suc a) n [] (y' ∷ ws') b l h = absurd (omega arith)
+zeroed_alike (suc a) n (y ∷ ws) [] b l h = absurd (omega arith)
+zeroed_alike (suc a) n (y ∷ ws) (y' ∷ ws') ℕ.zero l h = h
+zeroed_alike (suc a) n (y ∷ ws) (y' ∷ ws') (suc b) l h = rw suc-add (zeroed_alike a n ws ws' b (suc_inj l) h)
 
 -- a call reads no word that differs between two stores: RD alone gives a word
 abbrev pub SameWord : List ℕ → List ℕ → Call → Type 0
@@ -79,71 +79,71 @@ pub record AnsweredAlike (words words' : List ℕ) (c : Call) (r r' : Result) : 
   pub state : r.outcome.state ≡ r'.outcome.state
   pub after : SameAfter words words' r.words r'.words
 
-module _ (s : State) (words words' : List ℕ) (d : ℕ) (m : SameToEnds s.table words words' (domainAt s d).active) where
+module _ (s : State) (words words' : List ℕ) (d : ℕ) (m : SameToEnds s.table words words' (domain_at s d).active) where
   -- by two views the call has the same checks, value and fields, and leaves the same
   abbrev ComesAlike : Call → View → View → Type 0
   ComesAlike c v v' =
       (late d c v ≡ late d c v') × (SameWord words words' c → value c v ≡ value c v') × (fields c v ≡ fields c v')
-      × ((applyAll (changes d c v) (world s words)).state ≡ (applyAll (changes d c v') (world s words')).state)
-      × SameAfter words words' (applyAll (changes d c v) (world s words)).words (applyAll (changes d c v') (world s words')).words
+      × ((apply_all (changes d c v) (world s words)).state ≡ (apply_all (changes d c v') (world s words')).state)
+      × SameAfter words words' (apply_all (changes d c v) (world s words)).words (apply_all (changes d c v') (world s words')).words
 
-  access-alike : (c : Access) (j : Judgement) → ComesAlike (OnStore c) (sees (world s words) d (OnStore c) j) (sees (world s words') d (OnStore c) j)
+  access_alike : (c : Access) (j : Judgement) → ComesAlike (OnStore c) (sees (world s words) d (OnStore c) j) (sees (world s words') d (OnStore c) j)
   unfolding late changes
-  access-alike (Read a) (Granted p) = (refl, (λ e. e), refl, refl, λ a h. h)
-  access-alike (Read a) Refused = (refl, (λ e. refl), refl, refl, λ a h. h)
-  access-alike (Write a x) (Granted p) = (refl, (λ e. refl), refl, refl, λ b h. set-alike words words' a x b m.long h)
-  access-alike (Write a x) Refused = (refl, (λ e. refl), refl, refl, λ b h. set-alike words words' a x b m.long h)
-  access-alike (Execute a) (Granted p) = (refl, (λ e. refl), refl, refl, λ a h. h)
-  access-alike (Execute a) Refused = (refl, (λ e. refl), refl, refl, λ a h. h)
-  access-alike (Lookup a r) (Granted p) = (refl, (λ e. refl), refl, refl, λ a h. h)
-  access-alike (Lookup a r) Refused = (refl, (λ e. refl), refl, refl, λ a h. h)
+  access_alike (Read a) (Granted p) = (refl, (λ e. e), refl, refl, λ a h. h)
+  access_alike (Read a) Refused = (refl, (λ e. refl), refl, refl, λ a h. h)
+  access_alike (Write a x) (Granted p) = (refl, (λ e. refl), refl, refl, λ b h. set_alike words words' a x b m.long h)
+  access_alike (Write a x) Refused = (refl, (λ e. refl), refl, refl, λ b h. set_alike words words' a x b m.long h)
+  access_alike (Execute a) (Granted p) = (refl, (λ e. refl), refl, refl, λ a h. h)
+  access_alike (Execute a) Refused = (refl, (λ e. refl), refl, refl, λ a h. h)
+  access_alike (Lookup a r) (Granted p) = (refl, (λ e. refl), refl, refl, λ a h. h)
+  access_alike (Lookup a r) Refused = (refl, (λ e. refl), refl, refl, λ a h. h)
 
-  object-alike : (c : ObjectCall) (j : Judgement) → ComesAlike (OnObject c) (sees (world s words) d (OnObject c) j) (sees (world s words') d (OnObject c) j)
+  object_alike : (c : ObjectCall) (j : Judgement) → ComesAlike (OnObject c) (sees (world s words) d (OnObject c) j) (sees (world s words') d (OnObject c) j)
   unfolding late changes
-  object-alike (Create p n k a) j = (refl, (λ e. refl), refl, refl, λ b h. zeroed-alike (64 * p) (64 * n) words words' b m.long h)
-  object-alike (Delete b) (Granted p) = (refl, (λ e. refl), refl, refl, λ a h. h)
-  object-alike (Delete b) Refused = (refl, (λ e. refl), refl, refl, λ a h. h)
-  object-alike (AddPassword b k m) (Granted p) = (refl, (λ e. refl), refl, refl, λ a h. h)
-  object-alike (AddPassword b k m) Refused = (refl, (λ e. refl), refl, refl, λ a h. h)
-  object-alike (DropPassword b k) (Granted p) = (refl, (λ e. refl), refl, refl, λ a h. h)
-  object-alike (DropPassword b k) Refused = (refl, (λ e. refl), refl, refl, λ a h. h)
-  object-alike (Register b k x es) (Granted p) = (refl, (λ e. refl), refl, refl, λ a h. h)
-  object-alike (Register b k x es) Refused = (refl, (λ e. refl), refl, refl, λ a h. h)
+  object_alike (Create p n k a) j = (refl, (λ e. refl), refl, refl, λ b h. zeroed_alike (64 * p) (64 * n) words words' b m.long h)
+  object_alike (Delete b) (Granted p) = (refl, (λ e. refl), refl, refl, λ a h. h)
+  object_alike (Delete b) Refused = (refl, (λ e. refl), refl, refl, λ a h. h)
+  object_alike (AddPassword b k m) (Granted p) = (refl, (λ e. refl), refl, refl, λ a h. h)
+  object_alike (AddPassword b k m) Refused = (refl, (λ e. refl), refl, refl, λ a h. h)
+  object_alike (DropPassword b k) (Granted p) = (refl, (λ e. refl), refl, refl, λ a h. h)
+  object_alike (DropPassword b k) Refused = (refl, (λ e. refl), refl, refl, λ a h. h)
+  object_alike (Register b k x es) (Granted p) = (refl, (λ e. refl), refl, refl, λ a h. h)
+  object_alike (Register b k x es) Refused = (refl, (λ e. refl), refl, refl, λ a h. h)
 
-  domain-alike : (c : DomainCall) (j : Judgement) → ComesAlike (OnDomain c) (sees (world s words) d (OnDomain c) j) (sees (world s words') d (OnDomain c) j)
+  domain_alike : (c : DomainCall) (j : Judgement) → ComesAlike (OnDomain c) (sees (world s words) d (OnDomain c) j) (sees (world s words') d (OnDomain c) j)
   unfolding late changes
-  domain-alike (Insert i x) j = (refl, (λ e. refl), refl, refl, λ a h. h)
-  domain-alike (Remove i) j = (refl, (λ e. refl), refl, refl, λ a h. h)
-  domain-alike Get j = (refl, (λ e. refl), refl, refl, λ a h. h)
-  domain-alike (Lock i) j = (refl, (λ e. refl), refl, refl, λ a h. h)
-  domain-alike (PdxCall a ch) (Granted p) = (refl, (λ e. refl), refl, refl, λ a h. h)
-  domain-alike (PdxCall a ch) Refused = (refl, (λ e. refl), refl, refl, λ a h. h)
-  domain-alike PdxReturn j = (refl, (λ e. refl), refl, refl, λ a h. h)
+  domain_alike (Insert i x) j = (refl, (λ e. refl), refl, refl, λ a h. h)
+  domain_alike (Remove i) j = (refl, (λ e. refl), refl, refl, λ a h. h)
+  domain_alike Get j = (refl, (λ e. refl), refl, refl, λ a h. h)
+  domain_alike (Lock i) j = (refl, (λ e. refl), refl, refl, λ a h. h)
+  domain_alike (PdxCall a ch) (Granted p) = (refl, (λ e. refl), refl, refl, λ a h. h)
+  domain_alike (PdxCall a ch) Refused = (refl, (λ e. refl), refl, refl, λ a h. h)
+  domain_alike PdxReturn j = (refl, (λ e. refl), refl, refl, λ a h. h)
 
-  comes-alike : (c : Call) (j : Judgement) → ComesAlike c (sees (world s words) d c j) (sees (world s words') d c j)
-  comes-alike (OnStore c) j = access-alike c j
-  comes-alike (OnObject c) j = object-alike c j
-  comes-alike (OnDomain c) j = domain-alike c j
+  comes_alike : (c : Call) (j : Judgement) → ComesAlike c (sees (world s words) d c j) (sees (world s words') d c j)
+  comes_alike (OnStore c) j = access_alike c j
+  comes_alike (OnObject c) j = object_alike c j
+  comes_alike (OnDomain c) j = domain_alike c j
 
   -- WHAT STANDS BEHIND THE ENDS DECIDES NO CALL: two stores that differ only behind the ends of the caller's live lists answer it alike.
-  pub behind-apart : (c : Call) → AnsweredAlike words words' c (step (world s words) d c) (step (world s words') d c)
-  unfolding stepBy checks view
-  behind-apart c =
-      rw (← m.long, search-given (world s words) f (wanted c), search-given (world s words') f (wanted c), ← same (wanted c), ← v.0)
-      (go (firstFailing (storeCheck (world s words) ∷ soundCheck (world s words) ∷ early d c f ++ late d c (sees (world s words) d c j))))
+  pub behind_apart : (c : Call) → AnsweredAlike words words' c (step (world s words) d c) (step (world s words') d c)
+  unfolding step_by checks view
+  behind_apart c =
+      rw (← m.long, search_given (world s words) f (wanted c), search_given (world s words') f (wanted c), ← same (wanted c), ← v.0)
+      (go (first_failing (store_check (world s words) ∷ sound_check (world s words) ∷ early d c f ++ late d c (sees (world s words) d c j))))
     where
       f : Frame
-      f = (domainAt s d).active
+      f = (domain_at s d).active
 
       j : Judgement
-      j = judgedOn (world s words) f (wanted c)
+      j = judged_on (world s words) f (wanted c)
 
       v : ComesAlike c (sees (world s words) d c j) (sees (world s words') d c j)
-      v = comes-alike c j
+      v = comes_alike c j
 
-      same : (want : Want) → judgedOn (world s words) f want ≡ judgedOn (world s words') f want
+      same : (want : Want) → judged_on (world s words) f want ≡ judged_on (world s words') f want
       same nothing = refl
-      same (rights target r) = behind-ignored s.table words words' f target r m
+      same (rights target r) = behind_ignored s.table words words' f target r m
 
       go : (o : Option Refusal) → AnsweredAlike words words' c (concluded o (world s words) d c (sees (world s words) d c j)) (concluded o (world s words') d c (sees (world s words') d c j))
       go none = record { number = refl; answer = λ e. ap Done (v.1 e); fields = v.2; state = v.3; after = v.4 }

@@ -3,24 +3,24 @@ use Rattle.std.specs.Prelude.{ℕ, List, [], ◌++◌, ◌↔◌}
 use Rattle.std.proofs.Math.Path.{◌≡◌, refl}
 use Rattle.std.proofs.Common.{sym, ◌∙◌, true≢false}
 use Rattle.std.proofs.Math.Bool.{true}
-use Rattle.std.proofs.Math.Logic.{Iff·rfl, Iff·trans, Iff·and, Iff·not}
+use mathlib.Core.Logic.Iff
 use Rattle.std.proofs.Math.Option.{Option, none, some}
 use native.Mathlib.Omega.{arith}
 use Rattle.rights.specs.Modes.{read, write, execute, destroy, pdx, owner}
-use Rattle.state.specs.Places.{domainAt}
+use Rattle.state.specs.Places.{domain_at}
 use Rattle.clists.specs.Clist.{live}
 use Rattle.judge.specs.Judged.{judged}
-use Rattle.judge.specs.Laws.Exactly.{granted-when}
+use Rattle.judge.specs.Laws.Exactly.{granted_when}
 use Rattle.judge.specs.declared.Target.{Target}
 use Rattle.judge.specs.declared.Target.TheVariants.{Address, Base}
 use Rattle.judge.specs.declared.Judgement.{Judgement}
 use Rattle.judge.specs.declared.Judgement.TheVariants.{Granted, Refused}
-use Rattle.calls.specs.View.{World, Want, nothing, rights, View, Check, search, foundBy, passes, is_some}
+use Rattle.calls.specs.View.{World, Want, nothing, rights, View, Check, search, found_by, passes, is_some}
 use Rattle.calls.specs.Changes.{capability}
-use Rattle.calls.specs.Rules.{rule, wanted, presented, early, grantedCheck, presentedCheck, late, checks, view}
+use Rattle.calls.specs.Rules.{rule, wanted, presented, early, granted_check, presented_check, late, checks, view}
 use Rattle.calls.specs.Authority.{answered, Reaches, GrantableTo, WantGrantable, Authorised, DoneWhen, SevenUnless}
-use Rattle.calls.specs.Laws.Order.{AllHold, rest-ascends, done-hold}
-use Rattle.calls.specs.Laws.Levels.{all_append, Level, answers-level, toFive, six, comes-hold}
+use Rattle.calls.specs.Laws.Order.{AllHold, rest_ascends, done_hold}
+use Rattle.calls.specs.Laws.Levels.{all_append, Level, answers_level, to_five, six, comes_hold}
 use Rattle.calls.specs.declared.Call.{Call}
 use Rattle.calls.specs.declared.Call.TheVariants.{OnStore, OnObject, OnDomain}
 use Rattle.calls.specs.declared.Access.TheVariants.{Read, Write, Execute, Lookup}
@@ -33,66 +33,66 @@ use Rattle.calls.specs.declared.Refusal.TheVariants.{NotGranted}
 module _ (w : World) (d : ℕ) (c : Call) where
   -- checks 2 to 6, and those of number 7
   abbrev front : List Check
-  front = toFive w d c ++ six w d c
+  front = to_five w d c ++ six w d c
 
   abbrev sevens : List Check
-  sevens = grantedCheck (wanted c) (view judged w d c) ++ presentedCheck (presented c) (view judged w d c)
+  sevens = granted_check (wanted c) (view judged w d c) ++ presented_check (presented c) (view judged w d c)
 
   abbrev pub later : List Check
   later = (rule c).rest d (view judged w d c)
 
-  front-hold : AllHold front ↔ Reaches w d c
-  front-hold =
-      Iff·trans (all_append (toFive w d c) (six w d c))
-      (Iff·trans (Iff·and (comes-hold w d c) Iff·rfl) (λ h. record { comes = h.0; unlocks = h.1.0 }, λ r. (r.comes, (r.unlocks, tt))))
+  front_hold : AllHold front ↔ Reaches w d c
+  front_hold =
+      Iff.trans (all_append (to_five w d c) (six w d c))
+      (Iff.trans (Iff.and (comes_hold w d c) Iff.rfl) (λ h. record { comes = h.0; unlocks = h.1.0 }, λ r. (r.comes, (r.unlocks, tt))))
 
-  sevens-hold : AllHold sevens ↔ Authorised w d c
+  sevens_hold : AllHold sevens ↔ Authorised w d c
   unfolding view
-  sevens-hold =
-      Iff·trans (all_append (grantedCheck (wanted c) (view judged w d c)) _)
-      (Iff·trans (Iff·and (granted-hold (wanted c) _ refl) (presented-hold (presented c) _ refl))
+  sevens_hold =
+      Iff.trans (all_append (granted_check (wanted c) (view judged w d c)) _)
+      (Iff.trans (Iff.and (granted_hold (wanted c) _ refl) (presented_hold (presented c) _ refl))
       (λ h. record { grantable = h.0; passing = h.1 }, λ x. (x.grantable, x.passing)))
     where
-      found : (target : Target) (j : Judgement) → is_some (foundBy w target j) ≡ true ↔ ((a : ℕ) × (j ≡ Granted a))
+      found : (target : Target) (j : Judgement) → is_some (found_by w target j) ≡ true ↔ ((a : ℕ) × (j ≡ Granted a))
       found target (Granted a) = (λ h. (a, refl), λ h. refl)
       found target Refused = (λ h. absurd (true≢false (sym h)), λ h. let (a, e) = h in let z : ◌≡◌ {A = ℕ} 0 1 = cc in absurd (omega arith))
 
-      granted-hold : (want : Want) (v : View) → v.found ≡ search judged w (domainAt w.state d).active want
-          → AllHold (grantedCheck want v) ↔ WantGrantable w d want
-      granted-hold nothing v e = (λ h. h, λ h. h)
-      granted-hold (rights target r) v e =
-          let g = Iff·trans (found target _) (granted-when w.state.table w.words (domainAt w.state d).active target r) in
+      granted_hold : (want : Want) (v : View) → v.found ≡ search judged w (domain_at w.state d).active want
+          → AllHold (granted_check want v) ↔ WantGrantable w d want
+      granted_hold nothing v e = (λ h. h, λ h. h)
+      granted_hold (rights target r) v e =
+          let g = Iff.trans (found target _) (granted_when w.state.table w.words (domain_at w.state d).active target r) in
           (λ h. g.0 (rw e at h.0), λ h. (rw e (g.1 h), tt))
 
-      presented-hold : (p : Option Presented) (v : View) → v.live ≡ passes w.state.table p
-          → AllHold (presentedCheck p v) ↔ passes w.state.table p ≡ true
-      presented-hold none v e = (λ h. refl, λ h. tt)
-      presented-hold (some l) v e = (λ h. sym e ∙ h.0, λ h. (e ∙ h, tt))
+      presented_hold : (p : Option Presented) (v : View) → v.live ≡ passes w.state.table p
+          → AllHold (presented_check p v) ↔ passes w.state.table p ≡ true
+      presented_hold none v e = (λ h. refl, λ h. tt)
+      presented_hold (some l) v e = (λ h. sym e ∙ h.0, λ h. (e ∙ h, tt))
 
-  sevens-level : Level NotGranted sevens
-  sevens-level = go (wanted c) (presented c)
+  sevens_level : Level NotGranted sevens
+  sevens_level = go (wanted c) (presented c)
     where
-      go : (want : Want) (p : Option Presented) → Level NotGranted (grantedCheck want (view judged w d c) ++ presentedCheck p (view judged w d c))
+      go : (want : Want) (p : Option Presented) → Level NotGranted (granted_check want (view judged w d c) ++ presented_check p (view judged w d c))
       go nothing none = tt
       go nothing (some l) = (refl, tt)
       go (rights target r) none = (refl, tt)
       go (rights target r) (some l) = (refl, (refl, tt))
 
   -- EVERY CALL is done exactly where it comes to be judged, is authorised, and passes the checks from 8 on;
-  pub answers-done : answered w d c ≡ 0 ↔ (Reaches w d c × (Authorised w d c × AllHold later))
+  pub answers_done : answered w d c ≡ 0 ↔ (Reaches w d c × (Authorised w d c × AllHold later))
   unfolding checks early late view
-  answers-done =
-      Iff·trans (done-hold w d c)
-      (Iff·trans (all_append front (sevens ++ later)) (Iff·and front-hold (Iff·trans (all_append sevens later) (Iff·and sevens-hold Iff·rfl))))
+  answers_done =
+      Iff.trans (done_hold w d c)
+      (Iff.trans (all_append front (sevens ++ later)) (Iff.and front_hold (Iff.trans (all_append sevens later) (Iff.and sevens_hold Iff.rfl))))
 
   -- it is answered 7 exactly where it comes to be judged and is not authorised.
-  pub answers-seven : answered w d c ≡ 7 ↔ (Reaches w d c × (Authorised w d c → ⊥))
+  pub answers_seven : answered w d c ≡ 7 ↔ (Reaches w d c × (Authorised w d c → ⊥))
   unfolding checks early late view
-  answers-seven =
-      Iff·trans
-      (answers-level w d c NotGranted front sevens later refl (omega arith, (omega arith, (omega arith, (omega arith, (omega arith, tt))))) sevens-level
-      (rest-ascends d c (view judged w d c)))
-      (Iff·and front-hold (Iff·not sevens-hold))
+  answers_seven =
+      Iff.trans
+      (answers_level w d c NotGranted front sevens later refl (omega arith, (omega arith, (omega arith, (omega arith, (omega arith, tt))))) sevens_level
+      (rest_ascends d c (view judged w d c)))
+      (Iff.and front_hold (Iff.not sevens_hold))
 
 module _ (w : World) (d : ℕ) where
   -- a call that wants rights and presents nothing is authorised exactly where they are grantable
@@ -100,59 +100,59 @@ module _ (w : World) (d : ℕ) where
   alone c e n = (λ x. rw e at x.grantable, λ g. record { grantable = rw e g; passing = rw n refl })
 
   -- such a call, where it makes no checks from 8 on, is done exactly so
-  pub granted-done : (c : Call) {target : Target} {r : ℕ} → wanted c ≡ rights target r → presented c ≡ none → later w d c ≡ []
+  pub granted_done : (c : Call) {target : Target} {r : ℕ} → wanted c ≡ rights target r → presented c ≡ none → later w d c ≡ []
       → DoneWhen w d c (GrantableTo w d target r)
-  granted-done c e n z =
-      Iff·trans (answers-done w d c) (Iff·and Iff·rfl (Iff·trans (λ h. h.0, λ x. (x, rw z tt)) (alone c e n)))
+  granted_done c e n z =
+      Iff.trans (answers_done w d c) (Iff.and Iff.rfl (Iff.trans (λ h. h.0, λ x. (x, rw z tt)) (alone c e n)))
 
   -- and such a call, with or without these checks, is answered 7 exactly where they are not grantable
-  pub ungranted-seven : (c : Call) {target : Target} {r : ℕ} → wanted c ≡ rights target r → presented c ≡ none
+  pub ungranted_seven : (c : Call) {target : Target} {r : ℕ} → wanted c ≡ rights target r → presented c ≡ none
       → SevenUnless w d c (GrantableTo w d target r)
-  ungranted-seven c e n = Iff·trans (answers-seven w d c) (Iff·and Iff·rfl (Iff·not (alone c e n)))
+  ungranted_seven c e n = Iff.trans (answers_seven w d c) (Iff.and Iff.rfl (Iff.not (alone c e n)))
 
   -- RD, WR, EX, LK and DL
   pub read_done : (a : ℕ) → DoneWhen w d (OnStore (Read a)) (GrantableTo w d (Address a) read)
   unfolding rule
-  read_done a = granted-done (OnStore (Read a)) refl refl refl
+  read_done a = granted_done (OnStore (Read a)) refl refl refl
 
   pub write_done : (a x : ℕ) → DoneWhen w d (OnStore (Write a x)) (GrantableTo w d (Address a) write)
   unfolding rule
-  write_done a x = granted-done (OnStore (Write a x)) refl refl refl
+  write_done a x = granted_done (OnStore (Write a x)) refl refl refl
 
-  pub execute-done : (a : ℕ) → DoneWhen w d (OnStore (Execute a)) (GrantableTo w d (Address a) execute)
+  pub execute_done : (a : ℕ) → DoneWhen w d (OnStore (Execute a)) (GrantableTo w d (Address a) execute)
   unfolding rule
-  execute-done a = granted-done (OnStore (Execute a)) refl refl refl
+  execute_done a = granted_done (OnStore (Execute a)) refl refl refl
 
-  pub lookup-done : (a r : ℕ) → DoneWhen w d (OnStore (Lookup a r)) (GrantableTo w d (Address a) r)
+  pub lookup_done : (a r : ℕ) → DoneWhen w d (OnStore (Lookup a r)) (GrantableTo w d (Address a) r)
   unfolding rule
-  lookup-done a r = granted-done (OnStore (Lookup a r)) refl refl refl
+  lookup_done a r = granted_done (OnStore (Lookup a r)) refl refl refl
 
-  pub delete-done : (b : ℕ) → DoneWhen w d (OnObject (Delete b)) (GrantableTo w d (Base b) destroy)
+  pub delete_done : (b : ℕ) → DoneWhen w d (OnObject (Delete b)) (GrantableTo w d (Base b) destroy)
   unfolding rule
-  delete-done b = granted-done (OnObject (Delete b)) refl refl refl
+  delete_done b = granted_done (OnObject (Delete b)) refl refl refl
 
   -- AP, DP and CA
   pub add_seven : (b k m : ℕ) → SevenUnless w d (OnObject (AddPassword b k m)) (GrantableTo w d (Base b) owner)
   unfolding rule
-  add_seven b k m = ungranted-seven (OnObject (AddPassword b k m)) refl refl
+  add_seven b k m = ungranted_seven (OnObject (AddPassword b k m)) refl refl
 
-  pub drop-seven : (b k : ℕ) → SevenUnless w d (OnObject (DropPassword b k)) (GrantableTo w d (Base b) owner)
+  pub drop_seven : (b k : ℕ) → SevenUnless w d (OnObject (DropPassword b k)) (GrantableTo w d (Base b) owner)
   unfolding rule
-  drop-seven b k = ungranted-seven (OnObject (DropPassword b k)) refl refl
+  drop_seven b k = ungranted_seven (OnObject (DropPassword b k)) refl refl
 
-  pub call-seven : (a ch : ℕ) → SevenUnless w d (OnDomain (PdxCall a ch)) (GrantableTo w d (Address a) pdx)
+  pub call_seven : (a ch : ℕ) → SevenUnless w d (OnDomain (PdxCall a ch)) (GrantableTo w d (Address a) pdx)
   unfolding rule
-  call-seven a ch = ungranted-seven (OnDomain (PdxCall a ch)) refl refl
+  call_seven a ch = ungranted_seven (OnDomain (PdxCall a ch)) refl refl
 
   -- RG and IN, which present a Clist capability
-  pub register-seven : (b k : ℕ) (l : Presented) (es : Entries)
+  pub register_seven : (b k : ℕ) (l : Presented) (es : Entries)
       → SevenUnless w d (OnObject (Register b k l es)) (GrantableTo w d (Base b) owner × (live w.state.table (capability l) ≡ true))
   unfolding rule
-  register-seven b k l es =
-      Iff·trans (answers-seven w d _)
-      (Iff·and Iff·rfl (Iff·not (λ x. (x.grantable, x.passing), λ h. record { grantable = h.0; passing = h.1 })))
+  register_seven b k l es =
+      Iff.trans (answers_seven w d _)
+      (Iff.and Iff.rfl (Iff.not (λ x. (x.grantable, x.passing), λ h. record { grantable = h.0; passing = h.1 })))
 
-  pub insert-seven : (i : ℕ) (l : Presented) → SevenUnless w d (OnDomain (Insert i l)) (live w.state.table (capability l) ≡ true)
+  pub insert_seven : (i : ℕ) (l : Presented) → SevenUnless w d (OnDomain (Insert i l)) (live w.state.table (capability l) ≡ true)
   unfolding rule
-  insert-seven i l =
-      Iff·trans (answers-seven w d _) (Iff·and Iff·rfl (Iff·not (λ x. x.passing, λ h. record { grantable = tt; passing = h })))
+  insert_seven i l =
+      Iff.trans (answers_seven w d _) (Iff.and Iff.rfl (Iff.not (λ x. x.passing, λ h. record { grantable = tt; passing = h })))

@@ -3,8 +3,8 @@ use Rattle.std.specs.Prelude.{ℕ, ◌<◌, ◌≡◌, refl, true, false, List, 
 use Rattle.std.proofs.Common.{ap, ◌∙◌, arith, ne_eqb}
 use Rattle.std.proofs.Math.Option.{none, some}
 use Rattle.std.proofs.lemmas.List.{set-get_or}
-use Rattle.state.specs.Places.{noEstate, noDomain, noAccounts, estateAt, domainAt}
-use Rattle.state.specs.Update.{withEstate, withDomain}
+use Rattle.state.specs.Places.{no_estate, no_domain, no_accounts, estate_at, domain_at}
+use Rattle.state.specs.Update.{with_estate, with_domain}
 use Rattle.state.specs.declared.Table.{Table}
 use Rattle.state.specs.declared.Frame.{Frame}
 use Rattle.state.specs.declared.Domain.{Domain}
@@ -14,12 +14,12 @@ use Rattle.judge.specs.Judged.{judged}
 use Rattle.judge.specs.declared.Target.{Target}
 use Rattle.judge.specs.declared.Judgement.{Judgement}
 use Rattle.judge.specs.declared.Judgement.TheVariants.{Granted}
-use Rattle.calls.specs.View.{Want, nothing, rights, View, firstFailing, foundBy, search, passes, permitted, withinLimit}
+use Rattle.calls.specs.View.{Want, nothing, rights, View, first_failing, found_by, search, passes, permitted, within_limit}
 use Rattle.calls.specs.Changes.{estate, domain}
 use Rattle.calls.specs.Rules.{rule, in_range, unlocked, wanted, presented, charged, value, fields, late, changes, view}
-use Rattle.calls.specs.Step.{world, result, refusedWith, done, unchecked}
-use Rattle.calls.specs.Parts.{callerOf, Entered, unaltered, stays, withAltered, withMoved, Answers, Alters, Moves}
-use Rattle.calls.specs.Laws.Returns.{by-caller, by-range, by-lock, by-late, by-done}
+use Rattle.calls.specs.Step.{world, result_of, refused_with, done, unchecked}
+use Rattle.calls.specs.Parts.{caller_of, Entered, unaltered, stays, with_altered, with_moved, Answers, Alters, Moves}
+use Rattle.calls.specs.Laws.Returns.{by_caller, by_range, by_lock, by_late, by_done}
 use Rattle.calls.specs.declared.Call.{Call}
 use Rattle.calls.specs.declared.Call.TheVariants.{OnStore, OnObject, OnDomain}
 use Rattle.calls.specs.declared.Access.{Access}
@@ -35,11 +35,11 @@ use Rattle.calls.specs.declared.Refusal.{Refusal}
 use Rattle.calls.specs.declared.Refusal.TheVariants.{StoreLength, OutOfRange, Locked}
 
 -- a state with an estate, or a domain, put where it stands
-own-estate : (s : State) (t : Table) (k : ℕ) → s.table ≡ t → withEstate s k (estateAt t k) ≡ s
-own-estate s t k p = rw (← p, set-get_or s.table.estates k noEstate)
+own_estate : (s : State) (t : Table) (k : ℕ) → s.table ≡ t → with_estate s k (estate_at t k) ≡ s
+own_estate s t k p = rw (← p, set-get_or s.table.estates k no_estate)
 
-own-domain : (s : State) (m : Domain) (d : ℕ) → domainAt s d ≡ m → withDomain s d m ≡ s
-own-domain s m d q = rw (← q, set-get_or s.domains d noDomain)
+own_domain : (s : State) (m : Domain) (d : ℕ) → domain_at s d ≡ m → with_domain s d m ≡ s
+own_domain s m d q = rw (← q, set-get_or s.domains d no_domain)
 
 -- a table and the accounts, as a state of no domains
 abbrev pub parts : Table → Accounts → State
@@ -50,144 +50,144 @@ abbrev pub view_of : Table → Accounts → List ℕ → ℕ → Domain → Call
 view_of t x words d m c =
     record {
       domain = m;
-      estate = estateAt t d;
+      estate = estate_at t d;
       found = search judged (world (parts t x) words) m.active (wanted c);
       live = passes t (presented c);
       permits = permitted x d (charged c);
-      fits = withinLimit t x d (charged c);
+      fits = within_limit t x d (charged c);
     }
 
-found-is : (s : State) (words : List ℕ) (t : Table) (x : Accounts) → s.table ≡ t → (target : Target) (j : Judgement)
-    → foundBy (world s words) target j ≡ foundBy (world (parts t x) words) target j
-found-is s words t x p target (Granted pair) = rw p
-found-is s words t x p target Judgement.Refused = refl
+found_is : (s : State) (words : List ℕ) (t : Table) (x : Accounts) → s.table ≡ t → (target : Target) (j : Judgement)
+    → found_by (world s words) target j ≡ found_by (world (parts t x) words) target j
+found_is s words t x p target (Granted pair) = rw p
+found_is s words t x p target Judgement.Refused = refl
 
 search_is : (s : State) (words : List ℕ) (f : Frame) (t : Table) (x : Accounts) → s.table ≡ t → (want : Want)
     → search judged (world s words) f want ≡ search judged (world (parts t x) words) f want
 search_is s words f t x p nothing = refl
 search_is s words f t x p (rights target r) =
-    found-is s words t x p target (judged s.table words f target r)
-    ∙ ap (λ u. foundBy (world (parts t x) words) target (judged u words f target r)) p
+    found_is s words t x p target (judged s.table words f target r)
+    ∙ ap (λ u. found_by (world (parts t x) words) target (judged u words f target r)) p
 
-view-is : (s : State) (words : List ℕ) (d : ℕ) (c : Call) (t : Table) (x : Accounts) → s.table ≡ t → s.accounts ≡ x
-    → view judged (world s words) d c ≡ view_of t x words d (domainAt s d) c
+view_is : (s : State) (words : List ℕ) (d : ℕ) (c : Call) (t : Table) (x : Accounts) → s.table ≡ t → s.accounts ≡ x
+    → view judged (world s words) d c ≡ view_of t x words d (domain_at s d) c
 unfolding view
-view-is s words d c t x p q = rw (search_is s words (domainAt s d).active t x p (wanted c), p, q)
+view_is s words d c t x p q = rw (search_is s words (domain_at s d).active t x p (wanted c), p, q)
 
 -- a call on the caller's domain charges nothing, so that it reads the same with any accounts
-nothing-charged : (c : DomainCall) → charged (OnDomain c) ≡ none
+nothing_charged : (c : DomainCall) → charged (OnDomain c) ≡ none
 unfolding rule
-nothing-charged (Insert i l) = refl
-nothing-charged (Remove i) = refl
-nothing-charged Get = refl
-nothing-charged (Lock i) = refl
-nothing-charged (PdxCall a ch) = refl
-nothing-charged PdxReturn = refl
+nothing_charged (Insert i l) = refl
+nothing_charged (Remove i) = refl
+nothing_charged Get = refl
+nothing_charged (Lock i) = refl
+nothing_charged (PdxCall a ch) = refl
+nothing_charged PdxReturn = refl
 
-view-moves : (s : State) (words : List ℕ) (d : ℕ) (c : DomainCall) (t : Table) → s.table ≡ t
-    → view judged (world s words) d (OnDomain c) ≡ view_of t noAccounts words d (domainAt s d) (OnDomain c)
+view_moves : (s : State) (words : List ℕ) (d : ℕ) (c : DomainCall) (t : Table) → s.table ≡ t
+    → view judged (world s words) d (OnDomain c) ≡ view_of t no_accounts words d (domain_at s d) (OnDomain c)
 unfolding view
-view-moves s words d c t p = rw (search_is s words (domainAt s d).active t noAccounts p (wanted (OnDomain c)), nothing-charged c, p)
+view_moves s words d c t p = rw (search_is s words (domain_at s d).active t no_accounts p (wanted (OnDomain c)), nothing_charged c, p)
 
 -- a store of another length is refused by 2, whoever calls
-another-length : (words : List ℕ) (d : ℕ) → (length words ≡ 8192 → ⊥) → callerOf (length words) d ≡ Caller-as-Refused StoreLength
-another-length words d l = rw (ne_eqb _ _ l)
+another_length : (words : List ℕ) (d : ℕ) → (length words ≡ 8192 → ⊥) → caller_of (length words) d ≡ Caller-as-Refused StoreLength
+another_length words d l = rw (ne_eqb _ _ l)
 
 module _ (t : Table) (f : Frame) (words : List ℕ) (c : Access) {a : Answer} {words' : List ℕ} where
   -- an access with a store of another length
-  pub answers-length : (length words ≡ 8192 → ⊥) → a ≡ Refused StoreLength → words' ≡ words → Answers t f words c a words'
-  answers-length l h k s d e p q = rw (h, k) (by-caller s words d (OnStore c) StoreLength (another-length words d l))
+  pub answers_length : (length words ≡ 8192 → ⊥) → a ≡ Refused StoreLength → words' ≡ words → Answers t f words c a words'
+  answers_length l h k s d e p q = rw (h, k) (by_caller s words d (OnStore c) StoreLength (another_length words d l))
 
   -- and out of range
-  pub answers-range : length words ≡ 8192 → in_range (OnStore c) ≡ false → a ≡ Refused OutOfRange → words' ≡ words → Answers t f words c a words'
-  answers-range l n h k s d e p q = by-range s words d (OnStore c) (record { long = l; known = e }) n (rw (h, k))
+  pub answers_range : length words ≡ 8192 → in_range (OnStore c) ≡ false → a ≡ Refused OutOfRange → words' ≡ words → Answers t f words c a words'
+  answers_range l n h k s d e p q = by_range s words d (OnStore c) (record { long = l; known = e }) n (rw (h, k))
 
 module _ (t : Table) (x : Accounts) (d : ℕ) (f : Frame) (words : List ℕ) (c : ObjectCall) {r : Altered} where
   -- a refused call on objects hands back the first estate as it is
   refusing : {why : Refusal} → r ≡ unaltered t why
-      → ((s : State) → s.table ≡ t → s.accounts ≡ x → (d < 4 → (domainAt s d).active ≡ f)
-      → result (refusedWith s why) words ≡ unchecked (world s words) d (OnObject c)) → Alters t x d f words c r words
+      → ((s : State) → s.table ≡ t → s.accounts ≡ x → (d < 4 → (domain_at s d).active ≡ f)
+      → result_of (refused_with s why) words ≡ unchecked (world s words) d (OnObject c)) → Alters t x d f words c r words
   refusing {why} h g =
       record {
-        does = λ s p k q. rw (h, own-estate s t 0 p) (g s p k q);
+        does = λ s p k q. rw (h, own_estate s t 0 p) (g s p k q);
         place = rw h (omega arith);
         refused = λ w j. let i : why ≡ w = cc in rw (← i) h;
       }
 
   -- a caller that is not known
-  pub alters-unknown : {why : Refusal} → callerOf (length words) d ≡ Caller-as-Refused why → r ≡ unaltered t why → Alters t x d f words c r words
-  alters-unknown {why} g h = refusing h (λ s p k q. by-caller s words d (OnObject c) why g)
+  pub alters_unknown : {why : Refusal} → caller_of (length words) d ≡ Caller-as-Refused why → r ≡ unaltered t why → Alters t x d f words c r words
+  alters_unknown {why} g h = refusing h (λ s p k q. by_caller s words d (OnObject c) why g)
 
   -- a store of another length
-  pub alters-length : (length words ≡ 8192 → ⊥) → r ≡ unaltered t StoreLength → Alters t x d f words c r words
-  alters-length l h = alters-unknown (another-length words d l) h
+  pub alters_length : (length words ≡ 8192 → ⊥) → r ≡ unaltered t StoreLength → Alters t x d f words c r words
+  alters_length l h = alters_unknown (another_length words d l) h
 
   module _ (e : Entered words d) where
     -- out of range, locked, and refused behind that
-    pub alters-range : in_range (OnObject c) ≡ false → r ≡ unaltered t OutOfRange → Alters t x d f words c r words
-    alters-range n h = refusing h (λ s p k q. by-range s words d (OnObject c) e n refl)
+    pub alters_range : in_range (OnObject c) ≡ false → r ≡ unaltered t OutOfRange → Alters t x d f words c r words
+    alters_range n h = refusing h (λ s p k q. by_range s words d (OnObject c) e n refl)
 
-    pub alters-lock : in_range (OnObject c) ≡ true → unlocked (OnObject c) f ≡ false → r ≡ unaltered t Locked → Alters t x d f words c r words
-    alters-lock n u h = refusing h (λ s p k q. by-lock s words d (OnObject c) e n (rw (q e.known) u) refl)
+    pub alters_lock : in_range (OnObject c) ≡ true → unlocked (OnObject c) f ≡ false → r ≡ unaltered t Locked → Alters t x d f words c r words
+    alters_lock n u h = refusing h (λ s p k q. by_lock s words d (OnObject c) e n (rw (q e.known) u) refl)
 
-    pub alters-late : {why : Refusal} → in_range (OnObject c) ≡ true → unlocked (OnObject c) f ≡ true
-        → ((m : Domain) → m.active ≡ f → firstFailing (late d (OnObject c) (view_of t x words d m (OnObject c))) ≡ some why)
+    pub alters_late : {why : Refusal} → in_range (OnObject c) ≡ true → unlocked (OnObject c) f ≡ true
+        → ((m : Domain) → m.active ≡ f → first_failing (late d (OnObject c) (view_of t x words d m (OnObject c))) ≡ some why)
         → r ≡ unaltered t why → Alters t x d f words c r words
-    alters-late {why} n u l h =
+    alters_late {why} n u l h =
         refusing h
         (λ s p k q.
         let g = q e.known in
-        by-late s words d (OnObject c) e {why = why} n (rw g u) (rw (view-is s words d (OnObject c) t x p k) (l (domainAt s d) g)) refl)
+        by_late s words d (OnObject c) e {why = why} n (rw g u) (rw (view_is s words d (OnObject c) t x p k) (l (domain_at s d) g)) refl)
 
     -- done: it changes the estate that it hands back, and perhaps zeroes words
-    pub alters-done : {words' : List ℕ} → r.answer ≡ Done 0 → r.place < 4 → in_range (OnObject c) ≡ true → unlocked (OnObject c) f ≡ true
-        → ((m : Domain) → m.active ≡ f → firstFailing (late d (OnObject c) (view_of t x words d m (OnObject c))) ≡ none)
-        → ((m : Domain) → m.active ≡ f → (s : State) → result (withAltered s r) words' ≡ done (world s words) d (OnObject c) (view_of t x words d m (OnObject c)))
+    pub alters_done : {words' : List ℕ} → r.answer ≡ Done 0 → r.place < 4 → in_range (OnObject c) ≡ true → unlocked (OnObject c) f ≡ true
+        → ((m : Domain) → m.active ≡ f → first_failing (late d (OnObject c) (view_of t x words d m (OnObject c))) ≡ none)
+        → ((m : Domain) → m.active ≡ f → (s : State) → result_of (with_altered s r) words' ≡ done (world s words) d (OnObject c) (view_of t x words d m (OnObject c)))
         → Alters t x d f words c r words'
-    alters-done a z n u l h =
+    alters_done a z n u l h =
         record {
           does =
               λ s p k q.
               let g = q e.known in
-              by-done s words d (OnObject c) e n (rw g u) (rw (view-is s words d (OnObject c) t x p k) (l (domainAt s d) g))
-              (rw (view-is s words d (OnObject c) t x p k) (h (domainAt s d) g s));
+              by_done s words d (OnObject c) e n (rw g u) (rw (view_is s words d (OnObject c) t x p k) (l (domain_at s d) g))
+              (rw (view_is s words d (OnObject c) t x p k) (h (domain_at s d) g s));
           place = z;
           refused = λ why j. let y : ◌≡◌ {A = ℕ} 0 1 = cc in absurd (omega arith);
         }
 
 module _ (t : Table) (m : Domain) (words : List ℕ) (c : DomainCall) {r : Moved} where
   -- a call on the caller's domain, with a store of another length
-  pub moves-length : (length words ≡ 8192 → ⊥) → r ≡ stays m StoreLength → Moves t m words c r
-  moves-length l h s d e p q = rw (h, own-domain s m d q) (by-caller s words d (OnDomain c) StoreLength (another-length words d l))
+  pub moves_length : (length words ≡ 8192 → ⊥) → r ≡ stays m StoreLength → Moves t m words c r
+  moves_length l h s d e p q = rw (h, own_domain s m d q) (by_caller s words d (OnDomain c) StoreLength (another_length words d l))
 
   module _ (long : length words ≡ 8192) where
     -- out of range, locked, refused behind that, and done
-    pub moves-range : in_range (OnDomain c) ≡ false → r ≡ stays m OutOfRange → Moves t m words c r
-    moves-range n h s d e p q = by-range s words d (OnDomain c) (record { long = long; known = e }) n (rw (h, own-domain s m d q))
+    pub moves_range : in_range (OnDomain c) ≡ false → r ≡ stays m OutOfRange → Moves t m words c r
+    moves_range n h s d e p q = by_range s words d (OnDomain c) (record { long = long; known = e }) n (rw (h, own_domain s m d q))
 
-    pub moves-lock : in_range (OnDomain c) ≡ true → unlocked (OnDomain c) m.active ≡ false → r ≡ stays m Locked → Moves t m words c r
-    moves-lock n u h s d e p q = by-lock s words d (OnDomain c) (record { long = long; known = e }) n (rw q u) (rw (h, own-domain s m d q))
+    pub moves_lock : in_range (OnDomain c) ≡ true → unlocked (OnDomain c) m.active ≡ false → r ≡ stays m Locked → Moves t m words c r
+    moves_lock n u h s d e p q = by_lock s words d (OnDomain c) (record { long = long; known = e }) n (rw q u) (rw (h, own_domain s m d q))
 
-    pub moves-late : {why : Refusal} → in_range (OnDomain c) ≡ true → unlocked (OnDomain c) m.active ≡ true
-        → ((d : ℕ) → firstFailing (late d (OnDomain c) (view_of t noAccounts words d m (OnDomain c))) ≡ some why) → r ≡ stays m why → Moves t m words c r
-    moves-late {why} n u l h s d e p q =
-        by-late s words d (OnDomain c) (record { long = long; known = e }) {why = why} n (rw q u) (rw (view-moves s words d c t p, q) (l d)) (rw (h, own-domain s m d q))
+    pub moves_late : {why : Refusal} → in_range (OnDomain c) ≡ true → unlocked (OnDomain c) m.active ≡ true
+        → ((d : ℕ) → first_failing (late d (OnDomain c) (view_of t no_accounts words d m (OnDomain c))) ≡ some why) → r ≡ stays m why → Moves t m words c r
+    moves_late {why} n u l h s d e p q =
+        by_late s words d (OnDomain c) (record { long = long; known = e }) {why = why} n (rw q u) (rw (view_moves s words d c t p, q) (l d)) (rw (h, own_domain s m d q))
 
     -- what it changes is the domain that it hands back
-    pub moves-done : in_range (OnDomain c) ≡ true → unlocked (OnDomain c) m.active ≡ true
-        → ((d : ℕ) → firstFailing (late d (OnDomain c) (view_of t noAccounts words d m (OnDomain c))) ≡ none)
-        → ((d : ℕ) (s : State) → result (withMoved s d r) words ≡ done (world s words) d (OnDomain c) (view_of t noAccounts words d m (OnDomain c)))
+    pub moves_done : in_range (OnDomain c) ≡ true → unlocked (OnDomain c) m.active ≡ true
+        → ((d : ℕ) → first_failing (late d (OnDomain c) (view_of t no_accounts words d m (OnDomain c))) ≡ none)
+        → ((d : ℕ) (s : State) → result_of (with_moved s d r) words ≡ done (world s words) d (OnDomain c) (view_of t no_accounts words d m (OnDomain c)))
         → Moves t m words c r
-    moves-done n u l h s d e p q =
-        by-done s words d (OnDomain c) (record { long = long; known = e }) n (rw q u) (rw (view-moves s words d c t p, q) (l d))
-        (rw (view-moves s words d c t p, q) (h d s))
+    moves_done n u l h s d e p q =
+        by_done s words d (OnDomain c) (record { long = long; known = e }) n (rw q u) (rw (view_moves s words d c t p, q) (l d))
+        (rw (view_moves s words d c t p, q) (h d s))
 
     -- or it changes nothing
-    pub moves-told : in_range (OnDomain c) ≡ true → unlocked (OnDomain c) m.active ≡ true
-        → ((d : ℕ) → firstFailing (late d (OnDomain c) (view_of t noAccounts words d m (OnDomain c))) ≡ none)
-        → ((d : ℕ) → r.answer ≡ Done (value (OnDomain c) (view_of t noAccounts words d m (OnDomain c))))
-        → ((d : ℕ) → r.fields ≡ fields (OnDomain c) (view_of t noAccounts words d m (OnDomain c))) → r.domain ≡ m
-        → ((d : ℕ) → changes d (OnDomain c) (view_of t noAccounts words d m (OnDomain c)) ≡ []) → Moves t m words c r
-    moves-told n u l v g k h s d e p q =
-        by-done s words d (OnDomain c) (record { long = long; known = e }) n (rw q u) (rw (view-moves s words d c t p, q) (l d))
-        (rw (view-moves s words d c t p, q) (rw (h d, ← v d, ← g d, k, own-domain s m d q)))
+    pub moves_told : in_range (OnDomain c) ≡ true → unlocked (OnDomain c) m.active ≡ true
+        → ((d : ℕ) → first_failing (late d (OnDomain c) (view_of t no_accounts words d m (OnDomain c))) ≡ none)
+        → ((d : ℕ) → r.answer ≡ Done (value (OnDomain c) (view_of t no_accounts words d m (OnDomain c))))
+        → ((d : ℕ) → r.fields ≡ fields (OnDomain c) (view_of t no_accounts words d m (OnDomain c))) → r.domain ≡ m
+        → ((d : ℕ) → changes d (OnDomain c) (view_of t no_accounts words d m (OnDomain c)) ≡ []) → Moves t m words c r
+    moves_told n u l v g k h s d e p q =
+        by_done s words d (OnDomain c) (record { long = long; known = e }) n (rw q u) (rw (view_moves s words d c t p, q) (l d))
+        (rw (view_moves s words d c t p, q) (rw (h d, ← v d, ← g d, k, own_domain s m d q)))

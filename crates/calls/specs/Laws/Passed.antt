@@ -3,27 +3,27 @@ use Rattle.std.specs.Prelude.{ℕ, ◌<◌, ◌≡◌, refl, true, List, ◌∷�
 use Rattle.std.proofs.Common.{ap, arith, eqb-true, ltb-true}
 use Rattle.std.proofs.Math.Logic.{inl, inr, ⊎_elim}
 use Rattle.std.proofs.Math.Option.{Option, none, some}
-use Rattle.state.specs.Places.{domainAt}
+use Rattle.state.specs.Places.{domain_at}
 use Rattle.soundness.specs.Sound.{sound}
 use Rattle.judge.specs.Judged.{judged}
-use Rattle.calls.specs.Answers.{refusalNumber, number_of, value_of, noFields}
-use Rattle.calls.specs.View.{World, View, Check, firstFailing}
+use Rattle.calls.specs.Answers.{refusal_number, number_of, value_of, no_fields}
+use Rattle.calls.specs.View.{World, View, Check, first_failing}
 use Rattle.calls.specs.Rules.{in_range, unlocked, early, view, late, checks}
-use Rattle.calls.specs.Step.{Result, refused, done, concluded, storeCheck, stepBy, uncheckedBy, step, unchecked}
-use Rattle.calls.specs.Laws.Order.{allChecks, AllHold, none-fails}
+use Rattle.calls.specs.Step.{Result, refused, done, concluded, store_check, step_by, unchecked_by, step, unchecked}
+use Rattle.calls.specs.Laws.Order.{all_checks, AllHold, none_fails}
 use Rattle.calls.specs.declared.Call.{Call}
 use Rattle.calls.specs.declared.Refusal.{Refusal}
 use Rattle.calls.specs.declared.Answer.TheVariants.{Refused}
 
--- the result of a call that is refused by `why`: its number, the value 0, no fields, and the state and the words that came in
+-- the result_of of a call that is refused by `why`: its number, the value 0, no fields, and the state and the words that came in
 pub record Unchanged (w : World) (why : Refusal) (r : Result) : Type 0 where
-  pub number : number_of r.outcome.answer ≡ refusalNumber why
+  pub number : number_of r.outcome.answer ≡ refusal_number why
   pub value : value_of r.outcome.answer ≡ 0
-  pub fields : r.outcome.fields ≡ noFields
+  pub fields : r.outcome.fields ≡ no_fields
   pub state : r.outcome.state ≡ w.state
   pub words : r.words ≡ w.words
 
--- the result is such a one wherever it is a refusal
+-- the result_of is such a one wherever it is a refusal
 abbrev pub KeptIfRefused : World → Result → Type 0
 KeptIfRefused w r = (why : Refusal) → r.outcome.answer ≡ Refused why → Unchanged w why r
 
@@ -32,7 +32,7 @@ pub record Passes (w : World) (d : ℕ) (c : Call) : Type 0 where
   pub long : length w.words ≡ 8192
   pub domain : d < 4
   pub range : in_range c ≡ true
-  pub unlocks : unlocked c (domainAt w.state d).active ≡ true
+  pub unlocks : unlocked c (domain_at w.state d).active ≡ true
   pub rest : AllHold (late d c (view judged w d c))
 
 -- what a call comes to
@@ -43,7 +43,7 @@ abbrev pub Does : World → ℕ → Call → Result → Type 0
 Does w d c r = Passes w d c × (r ≡ done w d c (view judged w d c))
 
 -- a call whose checks hold passes
-passed : (w : World) (d : ℕ) (c : Call) → AllHold (storeCheck w ∷ checks d c (view judged w d c)) → Passes w d c
+passed : (w : World) (d : ℕ) (c : Call) → AllHold (store_check w ∷ checks d c (view judged w d c)) → Passes w d c
 unfolding checks early view
 passed w d c h =
     let (long, (domain, (range, (unlocks, rest)))) = h in
@@ -52,37 +52,37 @@ passed w d c h =
 module _ (w : World) (d : ℕ) (c : Call) where
   -- of any list of checks one fails, or each holds
   cases : (cs : List Check) (v : View)
-      → Refuses w (concluded (firstFailing cs) w d c v) ⊎ (AllHold cs × (concluded (firstFailing cs) w d c v ≡ done w d c v))
-  cases cs v = go (firstFailing cs) refl
+      → Refuses w (concluded (first_failing cs) w d c v) ⊎ (AllHold cs × (concluded (first_failing cs) w d c v ≡ done w d c v))
+  cases cs v = go (first_failing cs) refl
     where
-      go : (o : Option Refusal) → firstFailing cs ≡ o → Refuses w (concluded o w d c v) ⊎ (AllHold cs × (concluded o w d c v ≡ done w d c v))
-      go none e = inr ((none-fails cs).0 e, refl)
+      go : (o : Option Refusal) → first_failing cs ≡ o → Refuses w (concluded o w d c v) ⊎ (AllHold cs × (concluded o w d c v ≡ done w d c v))
+      go none e = inr ((none_fails cs).0 e, refl)
       go (some why) e = inl (why, refl)
 
-  kept : (cs : List Check) (v : View) → KeptIfRefused w (concluded (firstFailing cs) w d c v)
-  kept cs v why h = go (firstFailing cs) h
+  kept : (cs : List Check) (v : View) → KeptIfRefused w (concluded (first_failing cs) w d c v)
+  kept cs v why h = go (first_failing cs) h
     where
       go : (o : Option Refusal) → (concluded o w d c v).outcome.answer ≡ Refused why → Unchanged w why (concluded o w d c v)
       go none h = let z : ◌≡◌ {A = ℕ} 0 1 = cc in absurd (omega arith)
-      go (some r) h = let e : r ≡ why = cc in record { number = ap refusalNumber e; value = refl; fields = refl; state = refl; words = refl }
+      go (some r) h = let e : r ≡ why = cc in record { number = ap refusal_number e; value = refl; fields = refl; state = refl; words = refl }
 
   -- DEMAND 1: A REFUSED CALL CHANGES NOTHING, with check 3 and without it
-  pub refused-changes-nothing : KeptIfRefused w (step w d c) × KeptIfRefused w (unchecked w d c)
-  unfolding stepBy uncheckedBy
-  refused-changes-nothing =
-      (kept (allChecks w d c) (view judged w d c), kept (storeCheck w ∷ checks d c (view judged w d c)) (view judged w d c))
+  pub refused_changes_nothing : KeptIfRefused w (step w d c) × KeptIfRefused w (unchecked w d c)
+  unfolding step_by unchecked_by
+  refused_changes_nothing =
+      (kept (all_checks w d c) (view judged w d c), kept (store_check w ∷ checks d c (view judged w d c)) (view judged w d c))
 
   -- a call is refused, or the state is sound, and it passes and is done
-  pub step-cases : Refuses w (step w d c) ⊎ ((sound w.state ≡ true) × Does w d c (step w d c))
-  unfolding stepBy
-  step-cases =
+  pub step_cases : Refuses w (step w d c) ⊎ ((sound w.state ≡ true) × Does w d c (step w d c))
+  unfolding step_by
+  step_cases =
       ⊎_elim inl
       (λ t. let (h, e) = t in inr (h.1.0, (passed w d c (h.0, h.1.1), e)))
-      (cases (allChecks w d c) (view judged w d c))
+      (cases (all_checks w d c) (view judged w d c))
 
   -- with check 3 left out a call is refused, or passes and is done
-  pub unchecked-cases : Refuses w (unchecked w d c) ⊎ Does w d c (unchecked w d c)
-  unfolding uncheckedBy
-  unchecked-cases =
+  pub unchecked_cases : Refuses w (unchecked w d c) ⊎ Does w d c (unchecked w d c)
+  unfolding unchecked_by
+  unchecked_cases =
       ⊎_elim inl (λ t. let (h, e) = t in inr (passed w d c h, e))
-      (cases (storeCheck w ∷ checks d c (view judged w d c)) (view judged w d c))
+      (cases (store_check w ∷ checks d c (view judged w d c)) (view judged w d c))

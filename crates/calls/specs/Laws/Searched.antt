@@ -3,19 +3,19 @@ use Rattle.std.specs.Prelude.{ℕ, ◌/◌, ◌<◌, ◌≡◌, refl, true}
 use Rattle.std.proofs.Common.{arith}
 use Rattle.rights.specs.Bits.{bit}
 use Rattle.rights.specs.Modes.{pdx}
-use Rattle.state.specs.Lookup.{objectCovering}
-use Rattle.state.specs.Laws.Extent.{not-zero}
+use Rattle.state.specs.Lookup.{object_covering}
+use Rattle.state.specs.Laws.Extent.{not_zero}
 use Rattle.soundness.specs.Sound.{sound}
-use Rattle.soundness.specs.Laws.Found.{covering-answered}
+use Rattle.soundness.specs.Laws.Found.{covering_answered}
 use Rattle.state.specs.declared.Frame.{Frame}
 use Rattle.judge.specs.Search.{targeted}
 use Rattle.judge.specs.Judged.{judged}
-use Rattle.judge.specs.Laws.Grant.{TruePair, grant-means, grant-registered}
+use Rattle.judge.specs.Laws.Grant.{TruePair, grant_means, grant_registered}
 use Rattle.judge.specs.declared.Target.{Target}
 use Rattle.judge.specs.declared.Target.TheVariants.{Address}
 use Rattle.judge.specs.declared.Judgement.{Judgement}
 use Rattle.judge.specs.declared.Judgement.TheVariants.{Granted}
-use Rattle.calls.specs.View.{rights, World, search, foundBy, is_some}
+use Rattle.calls.specs.View.{rights, World, search, found_by, is_some}
 
 -- granted by a pair, which is true for the object asked for
 pub record Granting (w : World) (f : Frame) (target : Target) (r : ℕ) : Type 0 where
@@ -27,17 +27,17 @@ pub record Granting (w : World) (f : Frame) (target : Target) (r : ℕ) : Type 0
 pub was_granted : (w : World) (f : Frame) (target : Target) (r : ℕ) → is_some (search judged w f (rights target r)) ≡ true → Granting w f target r
 was_granted w f target r h = go (judged w.state.table w.words f target r) refl h
   where
-    go : (j : Judgement) → judged w.state.table w.words f target r ≡ j → is_some (foundBy w target j) ≡ true → Granting w f target r
+    go : (j : Judgement) → judged w.state.table w.words f target r ≡ j → is_some (found_by w target j) ≡ true → Granting w f target r
     go (Granted pair) e h =
-        let m = grant-means w.state.table w.words f target r pair e in
-        record { pair = pair; judgement = e; pages = not-zero _ m.stands; means = m }
+        let m = grant_means w.state.table w.words f target r pair e in
+        record { pair = pair; judgement = e; pages = not_zero _ m.stands; means = m }
     go Judgement.Refused e h = let z : ◌≡◌ {A = ℕ} 0 1 = cc in absurd (omega arith)
 
 -- An object that P is granted on has a registration.
-pub called-registered : (w : World) (f : Frame) (a pair : ℕ) → sound w.state ≡ true
-    → judged w.state.table w.words f (Address a) pdx ≡ Granted pair → 0 < (objectCovering w.state.table (a / 64)).registration.password
+pub called_registered : (w : World) (f : Frame) (a pair : ℕ) → sound w.state ≡ true
+    → judged w.state.table w.words f (Address a) pdx ≡ Granted pair → 0 < (object_covering w.state.table (a / 64)).registration.password
 unfolding bit
-called-registered w f a pair h e =
-    let m = grant-means w.state.table w.words f (Address a) pdx pair e in
-    let b = (covering-answered w.state (a / 64) h).bounds (not-zero _ m.stands) in
-    rw (grant-registered w.words _ pdx pair (a / 64 / 32) b refl m) m.nonzero
+called_registered w f a pair h e =
+    let m = grant_means w.state.table w.words f (Address a) pdx pair e in
+    let b = (covering_answered w.state (a / 64) h).bounds (not_zero _ m.stands) in
+    rw (grant_registered w.words _ pdx pair (a / 64 / 32) b refl m) m.nonzero

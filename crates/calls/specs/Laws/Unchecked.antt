@@ -4,18 +4,18 @@ use Rattle.std.proofs.Math.Path.{refl}
 use Rattle.std.proofs.Common.{sym, true≢false}
 use Rattle.std.proofs.Math.Bool.{true, false}
 use Rattle.std.proofs.Math.Dec.{eqb}
-use Rattle.bounded.specs.Bools.{or-unless}
+use Rattle.bounded.specs.Bools.{or_unless}
 use Rattle.soundness.specs.Sound.{sound}
 use Rattle.calls.specs.View.{World}
-use Rattle.calls.specs.Step.{stepBy, uncheckedBy, step, unchecked, refused, admitted}
+use Rattle.calls.specs.Step.{step_by, unchecked_by, step, unchecked, refused, admitted}
 use Rattle.calls.specs.declared.Call.{Call}
 use Rattle.calls.specs.declared.Refusal.TheVariants.{Unsound}
 
 module _ (w : World) (d : ℕ) (c : Call) where
   -- on a sound state, and on a store of another length, check 3 does not matter
-  pub step-unchecked : admitted w ≡ true → step w d c ≡ unchecked w d c
-  unfolding stepBy uncheckedBy admitted
-  step-unchecked h = go (eqb (length w.words) 8192) (sound w.state) refl refl h
+  pub step_unchecked : admitted w ≡ true → step w d c ≡ unchecked w d c
+  unfolding step_by unchecked_by admitted
+  step_unchecked h = go (eqb (length w.words) 8192) (sound w.state) refl refl h
     where
       go : (a b : Bool) → eqb (length w.words) 8192 ≡ a → sound w.state ≡ b → (not a || b) ≡ true → step w d c ≡ unchecked w d c
       go true true p q e = rw q
@@ -23,14 +23,14 @@ module _ (w : World) (d : ℕ) (c : Call) where
       go false b p q e = rw p
 
   -- on a sound state, whatever the store's length
-  pub sound-unchecked : sound w.state ≡ true → step w d c ≡ unchecked w d c
+  pub sound_unchecked : sound w.state ≡ true → step w d c ≡ unchecked w d c
   unfolding admitted
-  sound-unchecked h = step-unchecked (or-unless (not (eqb (length w.words) 8192)) (sound w.state) (λ e. h))
+  sound_unchecked h = step_unchecked (or_unless (not (eqb (length w.words) 8192)) (sound w.state) (λ e. h))
 
   -- a state that is not sound is refused, where the store has its length
-  pub step-unsound : admitted w ≡ false → step w d c ≡ refused w Unsound
-  unfolding stepBy admitted
-  step-unsound h = go (eqb (length w.words) 8192) (sound w.state) refl refl h
+  pub step_unsound : admitted w ≡ false → step w d c ≡ refused w Unsound
+  unfolding step_by admitted
+  step_unsound h = go (eqb (length w.words) 8192) (sound w.state) refl refl h
     where
       go : (a b : Bool) → eqb (length w.words) 8192 ≡ a → sound w.state ≡ b → (not a || b) ≡ false → step w d c ≡ refused w Unsound
       go true true p q e = absurd (true≢false e)

@@ -4,24 +4,24 @@ use mathlib.Core.List.{List}
 use native.Mathlib.Omega.{arith}
 use lib.ListN.{length, take}
 use borrow.Author.Rules.{rules}
-use Rattle.clists.specs.Clist.{listEnd, until_end}
-use Rattle.clists.specs.Laws.Ends.{end-at}
+use Rattle.clists.specs.Clist.{list_end, until_end}
+use Rattle.clists.specs.Laws.Ends.{end_at}
 use Rattle.clists.specs.Laws.Lists.{run_short}
 use Rattle.clists.proofs.clist.Statement.{statement}
 use Rattle.clists.proofs.clist.Tie as tie
 
-module _ (run : List ℕ) {n : ℕ} (e : n ≡ listEnd run) where
+module _ (run : List ℕ) {n : ℕ} (e : n ≡ list_end run) where
   -- the end lies within the run
   within : 2 * n ≤ length run
-  within = omega (arith, (end-at run).within)
+  within = omega (arith, (end_at run).within)
 
   -- what stands before it is the list
   list : take (2 * n - 0) run ≡ until_end run
   unfolding until_end
   list = let z : 2 * n - 0 ≡ 2 * n = omega arith in rw (z, e)
 
-pub clist-spec : {M : Type 1} → statement M
-clist-spec =
+pub clist_spec : {M : Type 1} → statement M
+clist_spec =
     tie.close
     (tie.spec (λ c κs. search rules) (λ c κs. search rules)
     (λ c.

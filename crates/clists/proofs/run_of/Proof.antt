@@ -6,8 +6,8 @@ use borrow.Author.Rules.{rules}
 use Rattle.clists.proofs.run_of.Statement.{statement}
 use Rattle.clists.proofs.run_of.Tie as tie
 
-pub run-of-spec : {M : Type 1} → statement M
-run-of-spec =
+pub run_of_spec : {M : Type 1} → statement M
+run_of_spec =
     tie.close
     (tie.spec (λ c. search rules) (λ c. search rules) (λ c. search rules) (λ c. search rules) (λ c. search rules) (λ c. search rules)
     (λ c. rw (lt-leb _ _ c.before.if1.true))

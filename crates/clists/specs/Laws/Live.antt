@@ -7,14 +7,14 @@ use Rattle.std.proofs.Math.Logic.{⊎_elim}
 use Rattle.std.specs.Int.Bits.{and_zero_l}
 use borrow.Author.Tests.{eqb-true, eqb-false, not-true}
 use Rattle.bounded.specs.Bools.{and_left, and_right}
-use Rattle.rights.specs.Modes.{read, grants, holdsNone}
+use Rattle.rights.specs.Modes.{read, grants, holds_none}
 use Rattle.rights.specs.Bits.{bit}
-use Rattle.rights.specs.Laws.{grants-exactly}
-use Rattle.state.specs.Places.{estateOf}
+use Rattle.rights.specs.Laws.{grants_exactly}
+use Rattle.state.specs.Places.{estate_of}
 use Rattle.state.specs.Extent.{free}
-use Rattle.state.specs.Lookup.{hasBase, based, objectBased, ordinaryMode, hasPassword}
-use Rattle.state.specs.Laws.Lookup.{base_same, found-or-free}
-use Rattle.state.specs.Laws.Passwords.{Ordinary, mode-ordinary, parts-has, free-mode}
+use Rattle.state.specs.Lookup.{has_base, based, object_based, ordinary_mode, has_password}
+use Rattle.state.specs.Laws.Lookup.{base_same, found_or_free}
+use Rattle.state.specs.Laws.Passwords.{Ordinary, mode_ordinary, parts_has, free_mode}
 use Rattle.state.specs.declared.Capability.{Capability}
 use Rattle.state.specs.declared.Table.{Table}
 use Rattle.clists.specs.Clist.{named, live}
@@ -25,20 +25,20 @@ pub record Live (t : Table) (c : Capability) : Type 0 where
   pub base : (named t c).base ≡ c.page
   pub nonzero : 0 < c.password
   pub ordinary : Ordinary (named t c) c.password
-  pub positive : bit 7 (ordinaryMode (named t c) c.password) ≡ 0
-  pub reads : bit 0 (ordinaryMode (named t c) c.password) ≡ 1
+  pub positive : bit 7 (ordinary_mode (named t c) c.password) ≡ 0
+  pub reads : bit 0 (ordinary_mode (named t c) c.password) ≡ 1
 
 -- A mode that grants some right is not 0.
-pub grants-some : (mode wanted : ℕ) → eqb wanted 0 ≡ false → grants mode wanted ≡ true → 0 < mode
-grants-some ℕ.zero wanted n h = absurd (eqb-false wanted 0 n (sym (sym (and_zero_l wanted) ∙ eqb-true _ _ (and_right (holdsNone 0 128) _ h))))
-grants-some (suc m) wanted n h = omega arith
+pub grants_some : (mode wanted : ℕ) → eqb wanted 0 ≡ false → grants mode wanted ≡ true → 0 < mode
+grants_some ℕ.zero wanted n h = absurd (eqb-false wanted 0 n (sym (sym (and_zero_l wanted) ∙ eqb-true _ _ (and_right (holds_none 0 128) _ h))))
+grants_some (suc m) wanted n h = omega arith
 
 -- A mode grants R exactly where it is positive and holds R.
-grants-read : (mode : ℕ) → grants mode read ≡ true ↔ (bit 7 mode ≡ 0) × (bit 0 mode ≡ 1)
+grants_read : (mode : ℕ) → grants mode read ≡ true ↔ (bit 7 mode ≡ 0) × (bit 0 mode ≡ 1)
 unfolding bit
-grants-read mode = (
-  λ h. let bits = (grants-exactly mode read).0 h in (bits.0, bits.1 0 refl),
-  λ h. (grants-exactly mode read).1 (h.0, λ k e. only k e h.1),
+grants_read mode = (
+  λ h. let bits = (grants_exactly mode read).0 h in (bits.0, bits.1 0 refl),
+  λ h. (grants_exactly mode read).1 (h.0, λ k e. only k e h.1),
 )
   where
     none : (k : ℕ) → bit k 0 ≡ 1 → ⊥
@@ -51,24 +51,24 @@ grants-read mode = (
 
 module _ (t : Table) (c : Capability) where
   -- A live capability names an object that stands, with its page as the base.
-  pub live-named : live t c ≡ true → hasBase c.page (named t c) ≡ true
-  unfolding live objectBased based
-  live-named h =
-      let p = grants-some (ordinaryMode (named t c) c.password) read refl h in
+  pub live_named : live t c ≡ true → has_base c.page (named t c) ≡ true
+  unfolding live object_based based
+  live_named h =
+      let p = grants_some (ordinary_mode (named t c) c.password) read refl h in
       ⊎_elim (λ s. s.passes)
-      (λ e. let z : ordinaryMode (named t c) c.password ≡ 0 = ap (λ o. ordinaryMode o c.password) e ∙ free-mode c.password in absurd (omega arith))
-      (found-or-free (hasBase c.page) (estateOf t c.page))
+      (λ e. let z : ordinary_mode (named t c) c.password ≡ 0 = ap (λ o. ordinary_mode o c.password) e ∙ free_mode c.password in absurd (omega arith))
+      (found_or_free (has_base c.page) (estate_of t c.page))
 
   -- RULE 1: a capability is live exactly so.
-  pub live-exactly : live t c ≡ true ↔ Live t c
+  pub live_exactly : live t c ≡ true ↔ Live t c
   unfolding live
-  live-exactly = (to, λ l. (grants-read (ordinaryMode (named t c) c.password)).1 (l.positive, l.reads))
+  live_exactly = (to, λ l. (grants_read (ordinary_mode (named t c) c.password)).1 (l.positive, l.reads))
     where
       to : live t c ≡ true → Live t c
       to h =
-          let named-so = live-named h in
-          let shown = mode-ordinary (named t c) c.password (grants-some _ read refl h) in
-          let bits = (grants-read (ordinaryMode (named t c) c.password)).0 h in
+          let named-so = live_named h in
+          let shown = mode_ordinary (named t c) c.password (grants_some _ read refl h) in
+          let bits = (grants_read (ordinary_mode (named t c) c.password)).0 h in
           record {
             stands = not-true _ (and_left _ _ named-so);
             base = base_same c.page (named t c) named-so;
@@ -80,13 +80,13 @@ module _ (t : Table) (c : Capability) where
 
   -- Its page is the base of the object that it names.
   pub live_base : live t c ≡ true → (named t c).base ≡ c.page
-  live_base h = (live-exactly.0 h).base
+  live_base h = (live_exactly.0 h).base
 
   -- It shows a password of that object.
-  pub live-holds : live t c ≡ true → hasPassword (named t c) c.password ≡ true
-  live-holds h = let l = live-exactly.0 h in parts-has (named t c) c.password l.nonzero (inr l.ordinary)
+  pub live_holds : live t c ≡ true → has_password (named t c) c.password ≡ true
+  live_holds h = let l = live_exactly.0 h in parts_has (named t c) c.password l.nonzero (inr l.ordinary)
 
 -- Liveness depends only on the object that the capability names.
-pub live-local : (t t' : Table) (c : Capability) → named t c ≡ named t' c → live t c ≡ live t' c
+pub live_local : (t t' : Table) (c : Capability) → named t c ≡ named t' c → live t c ≡ live t' c
 unfolding live
-live-local t t' c e = rw e
+live_local t t' c e = rw e

@@ -3,8 +3,8 @@ use Rattle.calls.specs.Rules.{in_range}
 use Rattle.create_call.proofs.create_in_range.Statement.{statement}
 use Rattle.create_call.proofs.create_in_range.Tie as tie
 
-pub create-in-range-spec : {M : Type 1} → statement M
+pub create_in_range_spec : {M : Type 1} → statement M
 unfolding in_range
-create-in-range-spec =
+create_in_range_spec =
     tie.close
     (tie.spec (λ c. search rules))

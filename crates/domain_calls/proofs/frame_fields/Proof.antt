@@ -1,11 +1,11 @@
 use borrow.Author.Rules.{rules}
-use Rattle.calls.specs.Changes.{frameFields}
+use Rattle.calls.specs.Changes.{frame_fields}
 use Rattle.domain_calls.proofs.frame_fields.Statement.{statement}
 use Rattle.domain_calls.proofs.frame_fields.Tie as tie
 
-pub frame-fields-spec : {M : Type 1} → statement M
-unfolding frameFields
-frame-fields-spec =
+pub frame_fields_spec : {M : Type 1} → statement M
+unfolding frame_fields
+frame_fields_spec =
     tie.close
     (tie.spec (λ c. search rules) (λ c. search rules) (λ c. search rules) (λ c. search rules) (λ c κs. search rules)
     (λ c κs. search rules) (λ c κs. search rules) (λ c κs. search rules) (λ c κs. search rules) (λ c κs. search rules)

@@ -3,8 +3,8 @@ use borrow.Author.Rules.{rules}
 use Rattle.domain_calls.proofs.page_at.Statement.{statement}
 use Rattle.domain_calls.proofs.page_at.Tie as tie
 
-pub page-at-spec : {M : Type 1} → statement M
-page-at-spec =
+pub page_at_spec : {M : Type 1} → statement M
+page_at_spec =
     tie.close
     (tie.spec (λ c. search rules)
     (λ c. rw (le-ltb _ _ c.if1.true))

@@ -1,13 +1,13 @@
 use native.Mathlib.Omega.{arith}
 use Rattle.text.specs.Puts.{then}
-use Rattle.figures.specs.Lines.{figureLines}
+use Rattle.figures.specs.Lines.{figure_lines}
 use borrow.Author.Rules.{rules}
 use Rattle.figures.proofs.figure_text.Statement.{statement}
 use Rattle.figures.proofs.figure_text.Tie as tie
 
-pub figure-text-spec : {M : Type 1} → statement M
-unfolding figureLines
-figure-text-spec =
+pub figure_text_spec : {M : Type 1} → statement M
+unfolding figure_lines
+figure_text_spec =
     tie.close
     (tie.spec (λ c. search rules) (λ c κs. search rules) (λ c. search rules) (λ c κs. search rules) (λ c. search rules) (λ c κs. search rules) (λ c. search rules) (λ c κs. search rules)
     (λ c.

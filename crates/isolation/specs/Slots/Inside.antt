@@ -9,14 +9,14 @@ use Rattle.state.specs.declared.Frame.{Frame}
 use Rattle.state.specs.declared.Domain.{Domain}
 use Rattle.state.specs.declared.State.{State}
 use Rattle.calls.specs.View.{World}
-use Rattle.isolation.specs.Group.{Group, member, insidePage}
-use Rattle.isolation.specs.Premises.{staysInside, StatePremise}
+use Rattle.isolation.specs.Group.{Group, member, inside_page}
+use Rattle.isolation.specs.Premises.{stays_inside, StatePremise}
 use Rattle.isolation.specs.Kept.{Each, Kept}
 
 module _ (G : Group) where
   -- the slots of a frame, of a domain with its saved ones, and the registered list of an object, name pages inside
   abbrev pub Page : Capability → Type 0
-  Page c = insidePage G c.page ≡ true
+  Page c = inside_page G c.page ≡ true
 
   abbrev pub FrameIn : Frame → Type 0
   FrameIn f = (k : ℕ) → k < f.count → Page (slot_at f k)
@@ -39,9 +39,9 @@ module _ (G : Group) where
   StateIn s = Kept Member ObjectIn DomainIn s
 
   -- Then the premise on slots holds.
-  pub in-premise : (w : World) → StateIn w.state → StatePremise G w
-  unfolding staysInside
-  in-premise w i =
+  pub in_premise : (w : World) → StateIn w.state → StatePremise G w
+  unfolding stays_inside
+  in_premise w i =
       record {
         members = λ d m. record {
           slots = λ k l. or_left _ _ ((i.domains d m).active k l);

@@ -10,10 +10,10 @@ use Rattle.state.specs.Places.{slot_at}
 use Rattle.state.specs.declared.Object.{Object}
 use Rattle.state.specs.declared.Table.{Table}
 use Rattle.state.specs.declared.Frame.{Frame}
-use Rattle.clists.specs.Clist.{named, live, clist, listAt}
-use Rattle.judge.specs.Search.{granting, denying, listFirst, slotFirst, frameFirst, frameVerdict}
-use Rattle.clists.specs.Laws.Lists.{list-unused}
-use Rattle.judge.specs.Walk.{listVerdict, Walking, walk_start, walk-next, walk-stop, walk-over, walk-skip, grant-undenied}
+use Rattle.clists.specs.Clist.{named, live, clist, list_at}
+use Rattle.judge.specs.Search.{granting, denying, list_first, slot_first, frame_first, frame_verdict}
+use Rattle.clists.specs.Laws.Lists.{list_unused}
+use Rattle.judge.specs.Walk.{list_verdict, Walking, walk_start, walk_next, walk_stop, walk_over, walk_skip, grant_undenied}
 use Rattle.judge.specs.declared.Verdict.{Verdict}
 use Rattle.judge.specs.declared.Verdict.TheVariants.{Denied}
 use Rattle.judge.proofs.frame_verdict.Statement.{statement}
@@ -22,10 +22,10 @@ use Rattle.judge.proofs.frame_verdict.Tie as tie
 module _ (t : Table) (words : List ℕ) (f : Frame) (o : Object) (wanted : ℕ) where
   -- what slot k denies, and what it grants
   abbrev denial : ℕ → Verdict
-  denial = slotFirst denying t words f o wanted
+  denial = slot_first denying t words f o wanted
 
   abbrev grant : ℕ → Verdict
-  grant = slotFirst granting t words f o wanted
+  grant = slot_first granting t words f o wanted
 
   -- what the walk knows at slot k
   abbrev AtSlot : ℕ → Verdict → Type 0
@@ -33,42 +33,42 @@ module _ (t : Table) (words : List ℕ) (f : Frame) (o : Object) (wanted : ℕ) 
 
   -- what is said of a slot in use, by the Clist of its capability
   abbrev said : ℕ → Verdict
-  said k = listVerdict (cond (live t (slot_at f k)) (clist words (named t (slot_at f k))) []) (64 * (slot_at f k).page) o wanted
+  said k = list_verdict (cond (live t (slot_at f k)) (clist words (named t (slot_at f k))) []) (64 * (slot_at f k).page) o wanted
 
   used : (k : ℕ) → k < f.count → said k ≡ cond (denying (denial k)) Denied (grant k)
-  unfolding slotFirst listAt listVerdict
+  unfolding slot_first list_at list_verdict
   used k h = rw (lt-ltb k f.count h)
 
   granted : (k : ℕ) → denying (grant k) ≡ false
-  unfolding slotFirst
-  granted k = grant-undenied (listAt t words f k) (64 * (slot_at f k).page) o wanted
+  unfolding slot_first
+  granted k = grant_undenied (list_at t words f k) (64 * (slot_at f k).page) o wanted
 
   -- a slot in use denies where what is said does; where it does not, what is said is its grant
-  denies-as : (k : ℕ) {v : Verdict} → k < f.count → v ≡ said k → denying (denial k) ≡ denying v
-  denies-as k h e = go (denying (denial k)) (grant k) (granted k) ∙ ap denying (sym (e ∙ used k h))
+  denies_as : (k : ℕ) {v : Verdict} → k < f.count → v ≡ said k → denying (denial k) ≡ denying v
+  denies_as k h e = go (denying (denial k)) (grant k) (granted k) ∙ ap denying (sym (e ∙ used k h))
     where
       go : (b : Bool) (g : Verdict) → denying g ≡ false → b ≡ denying (cond b Denied g)
       go true g e = refl
       go false g e = sym e
 
-  grants-as : (k : ℕ) {v : Verdict} → k < f.count → v ≡ said k → denying (denial k) ≡ false → v ≡ grant k
-  grants-as k h e n = e ∙ used k h ∙ rw n
+  grants_as : (k : ℕ) {v : Verdict} → k < f.count → v ≡ said k → denying (denial k) ≡ false → v ≡ grant k
+  grants_as k h e n = e ∙ used k h ∙ rw n
 
   -- slots that are not in use say nothing
   unused : (k : ℕ) (found : Verdict) → f.count ≤ k → k < 8 → AtSlot k found → AtSlot 8 found
-  unfolding slotFirst listFirst first
-  unused k found h l w = walk-skip 8 w (omega arith) (omega arith) (λ j a b. rw (list-unused t words f j (omega arith)) (refl, refl))
+  unfolding slot_first list_first first
+  unused k found h l w = walk_skip 8 w (omega arith) (omega arith) (λ j a b. rw (list_unused t words f j (omega arith)) (refl, refl))
 
-pub frame-verdict-spec : {M : Type 1} → statement M
-unfolding frameVerdict frameFirst
-frame-verdict-spec =
+pub frame_verdict_spec : {M : Type 1} → statement M
+unfolding frame_verdict frame_first
+frame_verdict_spec =
     tie.close
     (tie.spec (λ t store o wanted f count found₀ k₀ found k. AtSlot t store f o wanted.bits k found)
     (λ t store o wanted f count found₀ k₀ found k. 8 - k) (λ c. search rules) (λ c. walk_start)
     (λ c.
     let l = c.before.before in
     let a = l.before.before.args in
-    walk-over (unused a.t a.store.now a.t3 a.o a.wanted.bits l.loop.k l.loop.found c.if1.true c.before.loop-test.true l.loop.invariant)
+    walk_over (unused a.t a.store.now a.t3 a.o a.wanted.bits l.loop.k l.loop.found c.if1.true c.before.loop-test.true l.loop.invariant)
     (omega arith))
     (λ c. search rules) (λ c. search rules) (λ c κs. search rules) (λ c κs. search rules)
     (λ c.
@@ -76,9 +76,9 @@ frame-verdict-spec =
     let i = v.before.before in
     let m = i.before.before in
     let a = m.before.before.args in
-    let q = denies-as a.t a.store.now a.t3 a.o a.wanted.bits m.loop.k i.if1.false v.slot-verdict.ensures in
+    let q = denies_as a.t a.store.now a.t3 a.o a.wanted.bits m.loop.k i.if1.false v.slot-verdict.ensures in
     let d = sym c.before.denies.ensures ∙ c.if2.true in
-    walk-stop m.loop.invariant _ i.before.loop-test.true (q ∙ d) d)
+    walk_stop m.loop.invariant _ i.before.loop-test.true (q ∙ d) d)
     (λ c κs. search rules) (λ c. search rules) (λ c. search rules)
     (λ c.
     let e = c.before in
@@ -86,9 +86,9 @@ frame-verdict-spec =
     let i = v.before.before in
     let m = i.before.before in
     let a = m.before.before.args in
-    let q = denies-as a.t a.store.now a.t3 a.o a.wanted.bits m.loop.k i.if1.false v.slot-verdict.ensures in
+    let q = denies_as a.t a.store.now a.t3 a.o a.wanted.bits m.loop.k i.if1.false v.slot-verdict.ensures in
     let n = q ∙ sym e.before.denies.ensures ∙ e.if2.false in
-    let g = grants-as a.t a.store.now a.t3 a.o a.wanted.bits m.loop.k i.if1.false v.slot-verdict.ensures n in
+    let g = grants_as a.t a.store.now a.t3 a.o a.wanted.bits m.loop.k i.if1.false v.slot-verdict.ensures n in
     rw (c.or_else.ensures, g)
-    (walk-next m.loop.invariant i.before.loop-test.true n (granted a.t a.store.now a.t3 a.o a.wanted.bits m.loop.k)))
-    (λ c. walk-over c.before.loop.invariant c.loop-test.false))
+    (walk_next m.loop.invariant i.before.loop-test.true n (granted a.t a.store.now a.t3 a.o a.wanted.bits m.loop.k)))
+    (λ c. walk_over c.before.loop.invariant c.loop-test.false))

@@ -8,27 +8,27 @@ use borrow.Author.Rules.{rules}
 use Rattle.bounded.specs.Bools.{cond_same}
 use Rattle.state.specs.declared.Capability.{Capability}
 use Rattle.state.specs.declared.Table.{Table}
-use Rattle.clists.specs.Clist.{named, live, runWords, until_end, clist}
+use Rattle.clists.specs.Clist.{named, live, run_words, until_end, clist}
 use Rattle.clists.specs.Laws.Live.{live_base}
 use Rattle.clists.specs.Laws.Ends.{until_none}
 use Rattle.judge.proofs.slot_verdict.Statement.{statement}
 use Rattle.judge.proofs.slot_verdict.Tie as tie
 
 -- the words of the pages that a capability opens are those of the Clist that it names, where it is live
-opened-list : (t : Table) (words : List ℕ) (c : Capability) (n : ℕ) → n ≡ cond (live t c) (named t c).pages 0
-    → until_end (runWords words c.page n) ≡ cond (live t c) (clist words (named t c)) []
+opened_list : (t : Table) (words : List ℕ) (c : Capability) (n : ℕ) → n ≡ cond (live t c) (named t c).pages 0
+    → until_end (run_words words c.page n) ≡ cond (live t c) (clist words (named t c)) []
 unfolding clist
-opened-list t words c n = go (live t c) refl
+opened_list t words c n = go (live t c) refl
   where
     go : (b : Bool) → live t c ≡ b → n ≡ cond b (named t c).pages 0
-        → until_end (runWords words c.page n) ≡ cond b (clist words (named t c)) []
+        → until_end (run_words words c.page n) ≡ cond b (clist words (named t c)) []
     go true h e = rw (e, live_base t c h)
     go false h e = rw (e, cond_same {A = List ℕ} (leb (64 * (c.page + 0)) (length words)) [], until_none)
 
-pub slot-verdict-spec : {M : Type 1} → statement M
-slot-verdict-spec =
+pub slot_verdict_spec : {M : Type 1} → statement M
+slot_verdict_spec =
     tie.close
     (tie.spec (λ c κs. search rules) (λ c κs. search rules) (λ c. search rules) (λ c. search rules) (λ c κs. search rules)
     (λ c.
     let n = c.before.before.before in
-    rw (← opened-list _ _ _ _ n.opened.ensures, ← c.before.before.clist.ensures) c.list-verdict.ensures))
+    rw (← opened_list _ _ _ _ n.opened.ensures, ← c.before.before.clist.ensures) c.list-verdict.ensures))

@@ -3,6 +3,6 @@ use Rattle.std.specs.Prelude.{◌≡◌, refl}
 use Rattle.judge.specs.Search.{searched}
 use Rattle.judge.specs.Judged.{judged}
 
-pub judged-is : judged ≡ searched
+pub judged_is : judged ≡ searched
 unfolding judged
-judged-is = refl
+judged_is = refl

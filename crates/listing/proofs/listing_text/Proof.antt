@@ -5,9 +5,9 @@ use borrow.Author.Rules.{rules}
 use Rattle.listing.proofs.listing_text.Statement.{statement}
 use Rattle.listing.proofs.listing_text.Tie as tie
 
-pub listing-text-spec : {M : Type 1} → statement M
+pub listing_text_spec : {M : Type 1} → statement M
 unfolding listing
-listing-text-spec =
+listing_text_spec =
     tie.close
     (tie.spec (λ c. search rules) (λ c. search rules) (λ c κs. search rules) (λ c. search rules) (λ c. search rules) (λ c κs. search rules)
     (λ c. search rules) (λ c. search rules) (λ c κs. search rules) (λ c. search rules) (λ c. search rules) (λ c κs. search rules)

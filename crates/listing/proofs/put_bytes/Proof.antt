@@ -5,16 +5,16 @@ use native.Mathlib.Numerals.{add-one}
 use native.Mathlib.Omega.{arith}
 use lib.ListN.{length, take, get_or, length-set}
 use lib.Seq.{take_all, take-suc}
-use Rattle.text.specs.Puts.{Put, put-none, put_byte, then}
+use Rattle.text.specs.Puts.{Put, put_none, put_byte, then}
 use borrow.Author.Rules.{rules}
 use Rattle.listing.proofs.put_bytes.Statement.{statement}
 use Rattle.listing.proofs.put_bytes.Tie as tie
 
-pub put-bytes-spec : {M : Type 1} → statement M
-put-bytes-spec =
+pub put_bytes_spec : {M : Type 1} → statement M
+put_bytes_spec =
     tie.close
     (tie.spec (λ old s i₀ out i. Put old 0 (take i s) out i × (i ≤ length s) × (length out ≡ length old)) (λ old s i₀ out i. length s - i)
-    (λ c. (put-none _ _, omega arith, omega arith)) (λ c. search rules) (λ c. search rules) (λ c. search rules) (λ c. search rules)
+    (λ c. (put_none _ _, omega arith, omega arith)) (λ c. search rules) (λ c. search rules) (λ c. search rules) (λ c. search rules)
     (λ c.
     let s = c.before.before.before.args.s.now in
     let o = c.before.before.loop in

@@ -3,8 +3,8 @@ use Rattle.calls.specs.Rules.{in_range}
 use Rattle.object_calls.proofs.add_in_range.Statement.{statement}
 use Rattle.object_calls.proofs.add_in_range.Tie as tie
 
-pub add-in-range-spec : {M : Type 1} → statement M
+pub add_in_range_spec : {M : Type 1} → statement M
 unfolding in_range
-add-in-range-spec =
+add_in_range_spec =
     tie.close
     (tie.spec (λ c κs. search rules) (λ c. cc))

@@ -1,13 +1,13 @@
-use Rattle.ending.specs.Printed.{left-printed}
+use Rattle.ending.specs.Printed.{left_printed}
 use Rattle.listing.specs.Lines.{listing}
 use borrow.Author.Rules.{rules}
 use Rattle.objects.proofs.end_text.Statement.{statement}
 use Rattle.objects.proofs.end_text.Tie as tie
 
-pub end-text-spec : {M : Type 1} → statement M
-end-text-spec =
+pub end_text_spec : {M : Type 1} → statement M
+end_text_spec =
     tie.close
     (tie.spec (λ c κs. search rules) (λ c κs. search rules)
     (λ c.
     let p = c.listing-text.ensures in
-    (rw p.0 (left-printed listing _ c.before.end-table.ensures), p.1)))
+    (rw p.0 (left_printed listing _ c.before.end-table.ensures), p.1)))

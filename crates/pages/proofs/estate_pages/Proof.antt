@@ -1,12 +1,12 @@
 use native.Mathlib.Nat.{zero-add}
 use borrow.Author.Rules.{rules}
 use Rattle.bounded.specs.Sum.{total}
-use Rattle.state.specs.Pages.{estatePages}
+use Rattle.state.specs.Pages.{estate_pages}
 use Rattle.pages.proofs.estate_pages.Statement.{statement}
 use Rattle.pages.proofs.estate_pages.Tie as tie
 
 returns : tie.Need-returns
-unfolding estatePages total
+unfolding estate_pages total
 returns c =
     simp zero-add
     (rw (
@@ -20,8 +20,8 @@ returns c =
       c.before.before.before.before.before.before.before.before.before.before.before.before.before.before.pages-on.ensures,
     ))
 
-pub estate-pages-spec : {M : Type 1} → statement M
-estate-pages-spec =
+pub estate_pages_spec : {M : Type 1} → statement M
+estate_pages_spec =
     tie.close
     (tie.spec
     (λ c. search rules) (λ c κs. search rules) (λ c. search rules) (λ c. search rules) (λ c κs. search rules)

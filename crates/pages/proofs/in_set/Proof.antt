@@ -12,12 +12,12 @@ use Rattle.pages.proofs.in_set.Tie as tie
 by_one : (n : ℕ) → n / 2 ^ 0 ≡ n
 by_one n = omega arith
 
-no-account : (a : ℕ) → (a ≡ 0 → ⊥) → (a ≡ 1 → ⊥) → (a ≡ 2 → ⊥) → (a ≡ 3 → ⊥) → ltb a 4 ≡ false
-no-account a p q r s = le-ltb a 4 (omega arith)
+no_account : (a : ℕ) → (a ≡ 0 → ⊥) → (a ≡ 1 → ⊥) → (a ≡ 2 → ⊥) → (a ≡ 3 → ⊥) → ltb a 4 ≡ false
+no_account a p q r s = le-ltb a 4 (omega arith)
 
-pub in-set-spec : {M : Type 1} → statement M
+pub in_set_spec : {M : Type 1} → statement M
 unfolding in_set
-in-set-spec =
+in_set_spec =
     tie.close
     (tie.spec (λ c. rw (c.if1.true, by_one _)) (λ c. rw c.if2.true) (λ c. rw c.if3.true) (λ c. rw c.if4.true)
-    (λ c. rw (no-account _ c.before.before.before.if1.false c.before.before.if2.false c.before.if3.false c.if4.false)))
+    (λ c. rw (no_account _ c.before.before.before.if1.false c.before.before.if2.false c.before.if3.false c.if4.false)))

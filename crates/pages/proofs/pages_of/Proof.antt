@@ -1,12 +1,12 @@
 use native.Mathlib.Nat.{zero-add}
 use borrow.Author.Rules.{rules}
 use Rattle.bounded.specs.Sum.{total}
-use Rattle.state.specs.Pages.{pagesOf}
+use Rattle.state.specs.Pages.{pages_of}
 use Rattle.pages.proofs.pages_of.Statement.{statement}
 use Rattle.pages.proofs.pages_of.Tie as tie
 
 returns : tie.Need-returns
-unfolding pagesOf total
+unfolding pages_of total
 returns c =
     simp zero-add
     (rw (
@@ -16,8 +16,8 @@ returns c =
       c.before.before.before.before.before.before.estate-pages.ensures,
     ))
 
-pub pages-of-spec : {M : Type 1} → statement M
-pages-of-spec =
+pub pages_of_spec : {M : Type 1} → statement M
+pages_of_spec =
     tie.close
     (tie.spec
     (λ c. search rules) (λ c κs. search rules) (λ c. search rules) (λ c. search rules) (λ c κs. search rules)

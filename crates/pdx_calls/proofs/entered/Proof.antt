@@ -3,8 +3,8 @@ use borrow.Author.Rules.{rules}
 use Rattle.pdx_calls.proofs.entered.Statement.{statement}
 use Rattle.pdx_calls.proofs.entered.Tie as tie
 
-pub entered-spec : {M : Type 1} → statement M
-entered-spec =
+pub entered_spec : {M : Type 1} → statement M
+entered_spec =
     tie.close
     (tie.spec (λ c κs. search rules)
     (λ c. rw (eq-eqb _ _ c.before.if1.true) c.merge-list.ensures)

@@ -5,8 +5,8 @@ use Rattle.bounded.specs.Bools.{guarded}
 use Rattle.register_call.proofs.kept_entry.Statement.{statement}
 use Rattle.register_call.proofs.kept_entry.Tie as tie
 
-pub kept-entry-spec : {M : Type 1} → statement M
-kept-entry-spec =
+pub kept_entry_spec : {M : Type 1} → statement M
+kept_entry_spec =
     tie.close
     (tie.spec (λ c. rw (le-ltb _ _ c.if1.true))
     (λ c.

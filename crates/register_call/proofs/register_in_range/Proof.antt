@@ -3,8 +3,8 @@ use Rattle.calls.specs.Rules.{in_range}
 use Rattle.register_call.proofs.register_in_range.Statement.{statement}
 use Rattle.register_call.proofs.register_in_range.Tie as tie
 
-pub register-in-range-spec : {M : Type 1} → statement M
+pub register_in_range_spec : {M : Type 1} → statement M
 unfolding in_range
-register-in-range-spec =
+register_in_range_spec =
     tie.close
     (tie.spec (λ c κs. search rules) (λ c. cc))

@@ -5,9 +5,9 @@ use Rattle.calls.specs.Changes.{registration}
 use Rattle.register_call.proofs.registration.Statement.{statement}
 use Rattle.register_call.proofs.registration.Tie as tie
 
-pub registration-spec : {M : Type 1} → statement M
+pub registration_spec : {M : Type 1} → statement M
 unfolding registration
-registration-spec =
+registration_spec =
     tie.close
     (tie.spec (λ c κs. search rules) (λ c. search rules)
     (λ c κs. below_at 4 _ c.before.before.requires.2 0 (omega arith))

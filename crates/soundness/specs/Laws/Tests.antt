@@ -9,8 +9,8 @@ pub all4 : (a b c d : Bool) → (a && b && c && d) ≡ true → (a ≡ true) × 
 all4 a b c d h = let abc = all3 a b c (and_left (a && b && c) d h) in (abc.0, abc.1, abc.2, and_right (a && b && c) d h)
 
 -- where the place is unused, the first test passes; where it is in use, the second
-pub unused-test : (unused zero bound : Bool) → cond unused zero bound ≡ true → unused ≡ true → zero ≡ true
-unused-test unused zero bound h e = rw e at h
+pub unused_test : (unused zero bound : Bool) → cond unused zero bound ≡ true → unused ≡ true → zero ≡ true
+unused_test unused zero bound h e = rw e at h
 
-pub used-test : (unused zero bound : Bool) → cond unused zero bound ≡ true → unused ≡ false → bound ≡ true
-used-test unused zero bound h e = rw e at h
+pub used_test : (unused zero bound : Bool) → cond unused zero bound ≡ true → unused ≡ false → bound ≡ true
+used_test unused zero bound h e = rw e at h

@@ -1,7 +1,7 @@
 use mathlib.Core.Path.{refl}
 use mathlib.Core.List.{[], ◌∷◌}
 use native.Mathlib.Omega.{arith}
-use Rattle.replies.specs.Told.{printed-within}
+use Rattle.replies.specs.Told.{printed_within}
 use borrow.Author.Tests.{eq-eqb, ne_eqb}
 use borrow.Author.Rules.{rules}
 use Rattle.stream.proofs.finish.Statement.{statement}
@@ -14,4 +14,4 @@ finish_spec =
     (λ c.
     let a = c.before.before.before.before.before.before.before.before.args in
     let e = c.before.before.put-line.ensures in
-    rw (ne_eqb _ _ c.before.before.before.before.before.if1.false) (e.0, e.1, rw e.1 (printed-within a.out.now a.f.number 1 (0 ∷ [])))))
+    rw (ne_eqb _ _ c.before.before.before.before.before.if1.false) (e.0, e.1, rw e.1 (printed_within a.out.now a.f.number 1 (0 ∷ [])))))

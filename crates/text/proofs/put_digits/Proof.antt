@@ -2,20 +2,20 @@ use mathlib.Core.Path.{refl, ◌∙◌, ap}
 use mathlib.Core.Logic.{⊎_elim}
 use native.Mathlib.Omega.{arith}
 use lib.ListN.{length, length-set}
-use Rattle.text.specs.Spelled.{Spelling, spelling-none, spelling-two, spelling-one, spelling-all}
+use Rattle.text.specs.Spelled.{Spelling, spelling_none, spelling_two, spelling_one, spelling_all}
 use borrow.Author.Rules.{rules}
 use Rattle.text.proofs.put_digits.Statement.{statement}
 use Rattle.text.proofs.put_digits.Tie as tie
 
-pub put-digits-spec : {M : Type 1} → statement M
-put-digits-spec =
+pub put_digits_spec : {M : Type 1} → statement M
+put_digits_spec =
     tie.close
-    (tie.spec (λ old at n k rest₀ i₀ out rest i. Spelling old at n k out rest i) (λ old at n k rest₀ i₀ out rest i. i) (λ c. spelling-none)
+    (tie.spec (λ old at n k rest₀ i₀ out rest i. Spelling old at n k out rest i) (λ old at n k rest₀ i₀ out rest i. i) (λ c. spelling_none)
     (λ c. search rules) (λ c. search rules) (λ c. search rules) (λ c. search rules) (λ c. search rules)
     (λ c. search rules) (λ c. search rules)
     (λ c. rw (length-set c.before.loop.out _ _) (omega arith))
     (λ c. search rules)
-    (λ c. spelling-two c.before.loop.invariant c.before.before.requires c.loop-test.true)
+    (λ c. spelling_two c.before.loop.invariant c.before.before.requires c.loop-test.true)
     (λ c. search rules) (λ c. search rules) (λ c. search rules) (λ c. search rules)
     (λ c.
     let o = c.before.before.loop in
@@ -23,6 +23,6 @@ put-digits-spec =
     (λ c.
     let p = c.before.before.loop.invariant in
     let h = c.before.before.before.requires in (
-      ⊎_elim (λ w. rw w.1 (spelling-all (spelling-one p h w.0.taken) h (omega arith))) (λ w. rw w.1 (spelling-all p h (omega arith))) c.if1.branch,
+      ⊎_elim (λ w. rw w.1 (spelling_all (spelling_one p h w.0.taken) h (omega arith))) (λ w. rw w.1 (spelling_all p h (omega arith))) c.if1.branch,
       refl,
     )))

@@ -4,8 +4,8 @@ use borrow.Author.Rules.{rules}
 use Rattle.text.proofs.put_line.Statement.{statement}
 use Rattle.text.proofs.put_line.Tie as tie
 
-pub put-line-spec : {M : Type 1} → statement M
-put-line-spec =
+pub put_line_spec : {M : Type 1} → statement M
+put_line_spec =
     tie.close
     (tie.spec (λ c. (let a = c.before.before.before.args in no_room a.out.now a.at a.line a.answer a.values.now (omega arith)))
     (λ c. (let a = c.before.before.before.before.args in no_room a.out.now a.at a.line a.answer a.values.now (omega arith)))

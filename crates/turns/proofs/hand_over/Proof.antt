@@ -4,5 +4,5 @@ use borrow.Author.Rules.{rules}
 use Rattle.turns.proofs.hand_over.Statement.{statement}
 use Rattle.turns.proofs.hand_over.Tie as tie
 
-pub hand-over-spec : {M : Type 1} → statement M
-hand-over-spec = tie.close (tie.spec (λ c κs. search rules) (λ c e. absurd (true≢false (sym c.before.if1.true ∙ e))) (λ c. search rules))
+pub hand_over_spec : {M : Type 1} → statement M
+hand_over_spec = tie.close (tie.spec (λ c κs. search rules) (λ c e. absurd (true≢false (sym c.before.if1.true ∙ e))) (λ c. search rules))

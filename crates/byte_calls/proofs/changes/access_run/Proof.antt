@@ -3,8 +3,8 @@ use borrow.Author.Tests.{le-leb, lt-leb}
 use Rattle.byte_calls.proofs.changes.access_run.Statement.{statement}
 use Rattle.byte_calls.proofs.changes.access_run.Tie as tie
 
-pub access-run-spec : {M : Type 1} → statement M
-access-run-spec =
+pub access_run_spec : {M : Type 1} → statement M
+access_run_spec =
     tie.close
     (tie.spec
     (λ c. search rules)

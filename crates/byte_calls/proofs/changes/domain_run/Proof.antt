@@ -2,8 +2,8 @@ use borrow.Author.Rules.{rules}
 use Rattle.byte_calls.proofs.changes.domain_run.Statement.{statement}
 use Rattle.byte_calls.proofs.changes.domain_run.Tie as tie
 
-pub domain-run-spec : {M : Type 1} → statement M
-domain-run-spec =
+pub domain_run_spec : {M : Type 1} → statement M
+domain_run_spec =
     tie.close
     (tie.spec
     (λ c. search rules)

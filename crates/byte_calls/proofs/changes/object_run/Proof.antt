@@ -2,8 +2,8 @@ use borrow.Author.Rules.{rules}
 use Rattle.byte_calls.proofs.changes.object_run.Statement.{statement}
 use Rattle.byte_calls.proofs.changes.object_run.Tie as tie
 
-pub object-run-spec : {M : Type 1} → statement M
-object-run-spec =
+pub object_run_spec : {M : Type 1} → statement M
+object_run_spec =
     tie.close
     (tie.spec
     (λ c. search rules)

@@ -3,8 +3,8 @@ use borrow.Author.Tests.{le-leb, lt-leb}
 use Rattle.byte_calls.proofs.changes.page_end.Statement.{statement}
 use Rattle.byte_calls.proofs.changes.page_end.Tie as tie
 
-pub page-end-spec : {M : Type 1} → statement M
-page-end-spec =
+pub page_end_spec : {M : Type 1} → statement M
+page_end_spec =
     tie.close
     (tie.spec
     (λ c. rw (le-leb _ _ c.if1.true))

@@ -5,8 +5,8 @@ use Rattle.byte_calls.specs.Laws.Stored.{saved}
 use Rattle.byte_calls.proofs.store.save.Statement.{statement}
 use Rattle.byte_calls.proofs.store.save.Tie as tie
 
-pub save-spec : {M : Type 1} → statement M
-save-spec =
+pub save_spec : {M : Type 1} → statement M
+save_spec =
     tie.close
     (tie.spec
     (λ c κs. search rules)

@@ -3,8 +3,8 @@ use borrow.Author.Rules.{rules}
 use Rattle.calls.proofs.replies.replaces.Statement.{statement}
 use Rattle.calls.proofs.replies.replaces.Tie as tie
 
-pub replaces-spec : {M : Type 1} → statement M
-replaces-spec =
+pub replaces_spec : {M : Type 1} → statement M
+replaces_spec =
     tie.close
     (tie.spec (λ c κs. search rules) (λ c. rw (le-ltb _ _ c.before.if1.true) c.unaltered.ensures)
     (λ c. search rules) (λ c. search rules) (λ c κs. search rules) (λ c κs. search rules)

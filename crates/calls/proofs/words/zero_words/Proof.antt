@@ -6,8 +6,8 @@ use borrow.Author.Rules.{rules}
 use Rattle.calls.proofs.words.zero_words.Statement.{statement}
 use Rattle.calls.proofs.words.zero_words.Tie as tie
 
-pub zero-words-spec : {M : Type 1} → statement M
-zero-words-spec =
+pub zero_words_spec : {M : Type 1} → statement M
+zero_words_spec =
     tie.close
     (tie.spec
     (λ c.

@@ -6,18 +6,18 @@ use native.Mathlib.Omega.{arith}
 use lib.ListN.{length}
 use borrow.Author.Rules.{rules}
 use Rattle.bounded.specs.Search.{Searching, start, next, stop, over}
-use Rattle.clists.specs.Clist.{zeroPair, listEnd}
+use Rattle.clists.specs.Clist.{zero_pair, list_end}
 use Rattle.clists.proofs.ends.list_end.Statement.{statement}
 use Rattle.clists.proofs.ends.list_end.Tie as tie
 
 -- the end is looked for from pair i on
 abbrev From : List ℕ → ℕ → ℕ → Type 0
-From run pairs i = Searching (zeroPair run) (λ k. k) pairs pairs i
+From run pairs i = Searching (zero_pair run) (λ k. k) pairs pairs i
 
-abbrev Inv : tie.invariant-loop
+abbrev Inv : tie.invariant_loop
 Inv run pairs i₀ i = From run pairs i
 
-abbrev μ : tie.decreases-loop
+abbrev μ : tie.decreases_loop
 μ run pairs i₀ i = pairs - i
 
 -- past one pair more
@@ -53,9 +53,9 @@ past7 p = more _ (past6 p.before.before) (omega arith) p.before.zero-pair7.ensur
 past8 : (p : tie.Else8 Inv μ Inv μ) → Past p.before.before.before.before.before.before.before.before.before.before.before.before.before.before 8
 past8 p = more _ (past7 p.before.before) (omega arith) p.before.zero-pair8.ensures p.if8.false (omega arith)
 
-pub list-end-spec : {M : Type 1} → statement M
-unfolding listEnd
-list-end-spec =
+pub list_end_spec : {M : Type 1} → statement M
+unfolding list_end
+list_end_spec =
     tie.close
     (tie.spec Inv μ Inv μ (λ c. start) (λ c. search rules) (λ c κs. search rules)
     (λ c. stop c.before.before.before.loop.invariant (omega arith) (sym c.before.zero-pair.ensures ∙ c.if1.true))

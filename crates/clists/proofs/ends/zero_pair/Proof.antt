@@ -6,21 +6,21 @@ use lib.Dec.{eqb}
 use lib.ListN.{get_or}
 use borrow.Author.Tests.{ne_eqb, eq-eqb}
 use borrow.Author.Rules.{rules}
-use Rattle.clists.specs.Clist.{zeroPair}
+use Rattle.clists.specs.Clist.{zero_pair}
 use Rattle.clists.proofs.ends.zero_pair.Statement.{statement}
 use Rattle.clists.proofs.ends.zero_pair.Tie as tie
 
 module _ (run : List ℕ) (i : ℕ) where
   -- where the first word is not zero, the pair is no zero pair
-  first : (get_or run (2 * i) 0 ≡ 0 → ⊥) → false ≡ zeroPair run i
+  first : (get_or run (2 * i) 0 ≡ 0 → ⊥) → false ≡ zero_pair run i
   first h = rw (ne_eqb (get_or run (2 * i) 0) 0 h)
 
   -- where it is, the second decides
-  second : get_or run (2 * i) 0 ≡ 0 → eqb (get_or run (2 * i + 1) 0) 0 ≡ zeroPair run i
+  second : get_or run (2 * i) 0 ≡ 0 → eqb (get_or run (2 * i + 1) 0) 0 ≡ zero_pair run i
   second h = rw (eq-eqb (get_or run (2 * i) 0) 0 h)
 
-pub zero-pair-spec : {M : Type 1} → statement M
-zero-pair-spec =
+pub zero_pair_spec : {M : Type 1} → statement M
+zero_pair_spec =
     tie.close
     (tie.spec (λ c. search rules) (λ c. search rules) (λ c. search rules)
     (λ c. let a = c.before.before.args in first a.run.now a.i c.if1.true)

@@ -6,7 +6,7 @@ use native.Mathlib.Omega.{arith}
 use lib.ListN.{get_or}
 use borrow.Author.Tests.{eq-eqb, ne_eqb}
 use borrow.Author.Rules.{rules}
-use Rattle.bounded.specs.Search.{Skipped, skipped-none, skipped-more}
+use Rattle.bounded.specs.Search.{Skipped, skipped_none, skipped_more}
 use Rattle.judge.specs.Naming.{names}
 use Rattle.judge.proofs.pairs.next_pair.Statement.{statement}
 use Rattle.judge.proofs.pairs.next_pair.Tie as tie
@@ -22,7 +22,7 @@ module _ (list : List ℕ) (base : ℕ) where
 
   past : {from i : ℕ} (j m : ℕ) → j ≡ i + 1 → m ≡ 2 * i → Skipped (names list base) from i → Other m → Skipped (names list base) from j
   unfolding Other
-  past j m e w s h = rw e (skipped-more s (ne_eqb _ _ (rw w at h)))
+  past j m e w s h = rw e (skipped_more s (ne_eqb _ _ (rw w at h)))
 
   -- so do the next one, two, three, four
   module _ (from i : ℕ) (s : Skipped (names list base) from i) where
@@ -38,14 +38,14 @@ module _ (list : List ℕ) (base : ℕ) where
     four : Other (2 * i) → Other (2 * i + 2) → Other (2 * i + 4) → Other (2 * i + 6) → Skipped (names list base) from (i + 4)
     four a b c d = past (i + 4) (2 * i + 6) (omega arith) (omega arith) (three a b c) d
 
-pub next-pair-spec : {M : Type 1} → statement M
+pub next_pair_spec : {M : Type 1} → statement M
 unfolding Other
-next-pair-spec =
+next_pair_spec =
     tie.close
     (tie.spec
     (λ list pairs from base i₀ i. Skipped (names list base) from i × (i ≤ pairs)) (λ list pairs from base i₀ i. pairs - i)
     (λ list pairs from base i₀ i. Skipped (names list base) from i × (i ≤ pairs)) (λ list pairs from base i₀ i. pairs - i)
-    (λ c. (skipped-none, omega arith)) (λ c. search rules) (λ c. search rules) (λ c. search rules) (λ c. search rules)
+    (λ c. (skipped_none, omega arith)) (λ c. search rules) (λ c. search rules) (λ c. search rules) (λ c. search rules)
     (λ c. let l = c.before.before.before.loop.invariant in (l.0, l.1, λ h. eq-eqb _ _ c.if1.true))
     (λ c. search rules) (λ c. search rules) (λ c. search rules) (λ c. search rules)
     (λ c.
@@ -93,5 +93,5 @@ next-pair-spec =
     (λ c. search rules) (λ c. search rules) (λ c. search rules)
     (λ c. let l = c.before.before.before.loop2.invariant in (l.0, l.1, λ h. eq-eqb _ _ c.if5.true))
     (λ c. search rules) (λ c. search rules)
-    (λ c. let l = c.before.before.before.loop2.invariant in (skipped-more l.0 (ne_eqb _ _ c.if5.false), omega arith))
+    (λ c. let l = c.before.before.before.loop2.invariant in (skipped_more l.0 (ne_eqb _ _ c.if5.false), omega arith))
     (λ c. let l = c.before.loop2.invariant in (l.0, l.1, λ h. absurd (omega arith))))

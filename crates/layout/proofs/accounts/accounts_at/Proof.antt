@@ -4,9 +4,9 @@ use Rattle.layout.specs.Layout.{accounts}
 use Rattle.layout.proofs.accounts.accounts_at.Statement.{statement}
 use Rattle.layout.proofs.accounts.accounts_at.Tie as tie
 
-pub accounts-at-spec : {M : Type 1} → statement M
+pub accounts_at_spec : {M : Type 1} → statement M
 unfolding accounts
-accounts-at-spec =
+accounts_at_spec =
     tie.close
     (tie.spec
     (λ c κs. search rules)

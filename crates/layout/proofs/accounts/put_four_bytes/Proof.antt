@@ -2,28 +2,28 @@ use Prim.Native.Nat.{◌-◌}
 use lib.ListN.{get_or}
 use native.Mathlib.Nat.{one-mul}
 use borrow.Author.Rules.{rules}
-use Rattle.codec.specs.Loop.{Laying, laying-none, laying-more, laying-all}
+use Rattle.codec.specs.Loop.{Laying, laying_none, laying_more, laying_all}
 use Rattle.codec.specs.Number.{byte}
-use Rattle.layout.specs.Layout.{fourBytes}
+use Rattle.layout.specs.Layout.{four_bytes}
 use Rattle.layout.proofs.accounts.put_four_bytes.Statement.{statement}
 use Rattle.layout.proofs.accounts.put_four_bytes.Tie as tie
 
-abbrev invariant-loop : tie.invariant-loop
-invariant-loop s₀ at v i₀ s i = Laying byte (λ j. get_or v j 0) 4 s₀ at s i
+abbrev invariant_loop : tie.invariant_loop
+invariant_loop s₀ at v i₀ s i = Laying byte (λ j. get_or v j 0) 4 s₀ at s i
 
-abbrev decreases-loop : tie.decreases-loop
-decreases-loop s₀ at v i₀ s i = 4 - i
+abbrev decreases_loop : tie.decreases_loop
+decreases_loop s₀ at v i₀ s i = 4 - i
 
-pub put-four-bytes-spec : {M : Type 1} → statement M
-unfolding fourBytes
-put-four-bytes-spec =
+pub put_four_bytes_spec : {M : Type 1} → statement M
+unfolding four_bytes
+put_four_bytes_spec =
     tie.close
-    (tie.spec invariant-loop decreases-loop (λ c. laying-none _ _ _ _ _) (λ c. search rules) (λ c. search rules)
+    (tie.spec invariant_loop decreases_loop (λ c. laying_none _ _ _ _ _) (λ c. search rules) (λ c. search rules)
     (λ c κs. search rules) (λ c. search rules) (λ c. search rules)
     (λ c.
-    laying-more _ _ _ _ _ c.before.before.before.before.before.loop.invariant (search rules)
+    laying_more _ _ _ _ _ c.before.before.before.before.before.loop.invariant (search rules)
     (rw one-mul c.before.before.put_byte.ensures.0) c.before.before.put_byte.ensures.1)
     (λ c. search rules)
     (λ c.
     let b = c.before.before.before in
-    laying-all byte 0 b.args.t3 4 _ _ c.before.loop.invariant (search rules) b.well-formed.1.1.0.1.0.1))
+    laying_all byte 0 b.args.t3 4 _ _ c.before.loop.invariant (search rules) b.well-formed.1.1.0.1.0.1))

@@ -5,9 +5,9 @@ use Rattle.layout.specs.Layout.{capability}
 use Rattle.layout.proofs.frames.capability_at.Statement.{statement}
 use Rattle.layout.proofs.frames.capability_at.Tie as tie
 
-pub capability-at-spec : {M : Type 1} → statement M
+pub capability_at_spec : {M : Type 1} → statement M
 unfolding capability
-capability-at-spec =
+capability_at_spec =
     tie.close
     (tie.spec
     (λ c. search rules)

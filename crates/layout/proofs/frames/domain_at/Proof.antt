@@ -5,9 +5,9 @@ use Rattle.layout.specs.Layout.{domain}
 use Rattle.layout.proofs.frames.domain_at.Statement.{statement}
 use Rattle.layout.proofs.frames.domain_at.Tie as tie
 
-pub domain-at-spec : {M : Type 1} → statement M
+pub domain_at_spec : {M : Type 1} → statement M
 unfolding domain
-domain-at-spec =
+domain_at_spec =
     tie.close
     (tie.spec
     (λ c κs. search rules)

@@ -5,9 +5,9 @@ use Rattle.layout.specs.Layout.{saved, domain}
 use Rattle.layout.proofs.frames.domain_ok.Statement.{statement}
 use Rattle.layout.proofs.frames.domain_ok.Tie as tie
 
-pub domain-ok-spec : {M : Type 1} → statement M
+pub domain_ok_spec : {M : Type 1} → statement M
 unfolding byte saved domain
-domain-ok-spec =
+domain_ok_spec =
     tie.close
     (tie.spec
     (λ c κs. search rules)

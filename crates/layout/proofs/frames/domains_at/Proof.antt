@@ -4,9 +4,9 @@ use Rattle.layout.specs.Layout.{domains}
 use Rattle.layout.proofs.frames.domains_at.Statement.{statement}
 use Rattle.layout.proofs.frames.domains_at.Tie as tie
 
-pub domains-at-spec : {M : Type 1} → statement M
+pub domains_at_spec : {M : Type 1} → statement M
 unfolding domains
-domains-at-spec =
+domains_at_spec =
     tie.close
     (tie.spec
     (λ c κs. search rules)

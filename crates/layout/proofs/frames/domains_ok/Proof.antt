@@ -4,9 +4,9 @@ use Rattle.layout.specs.Layout.{domains}
 use Rattle.layout.proofs.frames.domains_ok.Statement.{statement}
 use Rattle.layout.proofs.frames.domains_ok.Tie as tie
 
-pub domains-ok-spec : {M : Type 1} → statement M
+pub domains_ok_spec : {M : Type 1} → statement M
 unfolding domains
-domains-ok-spec =
+domains_ok_spec =
     tie.close
     (tie.spec
     (λ c κs. search rules)

@@ -1,13 +1,13 @@
 use borrow.Author.Rules.{rules}
 use lib.Seq.{drop-drop}
-use Rattle.codec.specs.Number.{byte_at, truth-at}
+use Rattle.codec.specs.Number.{byte_at, truth_at}
 use Rattle.layout.specs.Layout.{frame}
 use Rattle.layout.proofs.frames.frame_at.Statement.{statement}
 use Rattle.layout.proofs.frames.frame_at.Tie as tie
 
-pub frame-at-spec : {M : Type 1} → statement M
+pub frame_at_spec : {M : Type 1} → statement M
 unfolding frame
-frame-at-spec =
+frame_at_spec =
     tie.close
     (tie.spec
     (λ c κs. search rules)
@@ -17,4 +17,4 @@ frame-at-spec =
     (λ c. search rules)
     (λ c. search rules)
     (λ c. search rules)
-    (λ c. simp (drop-drop, byte_at, truth-at) (cc)))
+    (λ c. simp (drop-drop, byte_at, truth_at) (cc)))

@@ -5,9 +5,9 @@ use Rattle.codec.specs.Number.{byte}
 use Rattle.layout.proofs.frames.put_capability.Statement.{statement}
 use Rattle.layout.proofs.frames.put_capability.Tie as tie
 
-pub put-capability-spec : {M : Type 1} → statement M
+pub put_capability_spec : {M : Type 1} → statement M
 unfolding capability
-put-capability-spec =
+put_capability_spec =
     tie.close
     (tie.spec
     (λ c κs. search rules)

@@ -5,9 +5,9 @@ use native.Mathlib.Nat.{add_assoc}
 use Rattle.layout.proofs.frames.put_domain.Statement.{statement}
 use Rattle.layout.proofs.frames.put_domain.Tie as tie
 
-pub put-domain-spec : {M : Type 1} → statement M
+pub put_domain_spec : {M : Type 1} → statement M
 unfolding domain
-put-domain-spec =
+put_domain_spec =
     tie.close
     (tie.spec
     (λ c κs. search rules)

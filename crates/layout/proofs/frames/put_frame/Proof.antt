@@ -6,9 +6,9 @@ use native.Mathlib.Nat.{add_assoc}
 use Rattle.layout.proofs.frames.put_frame.Statement.{statement}
 use Rattle.layout.proofs.frames.put_frame.Tie as tie
 
-pub put-frame-spec : {M : Type 1} → statement M
+pub put_frame_spec : {M : Type 1} → statement M
 unfolding frame
-put-frame-spec =
+put_frame_spec =
     tie.close
     (tie.spec
     (λ c κs. search rules)

@@ -1,28 +1,28 @@
 use Prim.Native.Nat.{◌-◌}
 use lib.ListN.{get_or}
 use borrow.Author.Rules.{rules}
-use Rattle.codec.specs.Loop.{Laying, laying-none, laying-more, laying-all}
-use Rattle.state.specs.Places.{noFrame}
+use Rattle.codec.specs.Loop.{Laying, laying_none, laying_more, laying_all}
+use Rattle.state.specs.Places.{no_frame}
 use Rattle.layout.specs.Layout.{frame, saved}
 use Rattle.layout.proofs.frames.put_saved.Statement.{statement}
 use Rattle.layout.proofs.frames.put_saved.Tie as tie
 
-abbrev invariant-loop : tie.invariant-loop
-invariant-loop s₀ at v i₀ s i = Laying frame (λ j. get_or v j noFrame) 4 s₀ at s i
+abbrev invariant_loop : tie.invariant_loop
+invariant_loop s₀ at v i₀ s i = Laying frame (λ j. get_or v j no_frame) 4 s₀ at s i
 
-abbrev decreases-loop : tie.decreases-loop
-decreases-loop s₀ at v i₀ s i = 4 - i
+abbrev decreases_loop : tie.decreases_loop
+decreases_loop s₀ at v i₀ s i = 4 - i
 
-pub put-saved-spec : {M : Type 1} → statement M
+pub put_saved_spec : {M : Type 1} → statement M
 unfolding saved
-put-saved-spec =
+put_saved_spec =
     tie.close
-    (tie.spec invariant-loop decreases-loop (λ c. laying-none _ _ _ _ _) (λ c. search rules) (λ c. search rules) (λ c. search rules)
+    (tie.spec invariant_loop decreases_loop (λ c. laying_none _ _ _ _ _) (λ c. search rules) (λ c. search rules) (λ c. search rules)
     (λ c. search rules) (λ c κs. search rules) (λ c. search rules) (λ c. search rules)
     (λ c.
-    laying-more _ _ _ _ _ c.before.before.before.before.before.before.loop.invariant (search rules)
+    laying_more _ _ _ _ _ c.before.before.before.before.before.before.loop.invariant (search rules)
     c.before.before.put-frame.ensures.0 c.before.before.put-frame.ensures.1)
     (λ c. search rules)
     (λ c.
     let b = c.before.before.before in
-    laying-all frame noFrame b.args.t3 4 _ _ c.before.loop.invariant (search rules) b.well-formed.1.1.0.1.0.1))
+    laying_all frame no_frame b.args.t3 4 _ _ c.before.loop.invariant (search rules) b.well-formed.1.1.0.1.0.1))

@@ -4,9 +4,9 @@ use Rattle.layout.specs.Layout.{saved}
 use Rattle.layout.proofs.frames.saved_at.Statement.{statement}
 use Rattle.layout.proofs.frames.saved_at.Tie as tie
 
-pub saved-at-spec : {M : Type 1} → statement M
+pub saved_at_spec : {M : Type 1} → statement M
 unfolding saved
-saved-at-spec =
+saved_at_spec =
     tie.close
     (tie.spec
     (λ c κs. search rules)

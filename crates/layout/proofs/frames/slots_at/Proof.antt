@@ -4,9 +4,9 @@ use Rattle.layout.specs.Layout.{slots}
 use Rattle.layout.proofs.frames.slots_at.Statement.{statement}
 use Rattle.layout.proofs.frames.slots_at.Tie as tie
 
-pub slots-at-spec : {M : Type 1} → statement M
+pub slots_at_spec : {M : Type 1} → statement M
 unfolding slots
-slots-at-spec =
+slots_at_spec =
     tie.close
     (tie.spec
     (λ c κs. search rules)

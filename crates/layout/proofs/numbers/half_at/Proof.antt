@@ -1,10 +1,10 @@
 use borrow.Author.Rules.{rules}
-use Rattle.codec.specs.Number.{half-sum}
+use Rattle.codec.specs.Number.{half_sum}
 use Rattle.layout.proofs.numbers.half_at.Statement.{statement}
 use Rattle.layout.proofs.numbers.half_at.Tie as tie
 
-pub half-at-spec : {M : Type 1} → statement M
-half-at-spec =
+pub half_at_spec : {M : Type 1} → statement M
+half_at_spec =
     tie.close
     (tie.spec
     (λ c. search rules)
@@ -15,4 +15,4 @@ half-at-spec =
     (λ c. search rules)
     (λ c. search rules)
     (λ c. search rules)
-    (λ c. rw half-sum (cc)))
+    (λ c. rw half_sum (cc)))

@@ -4,9 +4,9 @@ use Rattle.codec.specs.Number.{byte}
 use Rattle.layout.proofs.numbers.put_byte.Statement.{statement}
 use Rattle.layout.proofs.numbers.put_byte.Tie as tie
 
-pub put-byte-spec : {M : Type 1} → statement M
+pub put_byte_spec : {M : Type 1} → statement M
 unfolding byte
-put-byte-spec =
+put_byte_spec =
     tie.close
     (tie.spec
     (λ c. search rules)

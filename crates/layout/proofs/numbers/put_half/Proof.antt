@@ -6,9 +6,9 @@ use Rattle.codec.specs.Number.{number, digits}
 use Rattle.layout.proofs.numbers.put_half.Statement.{statement}
 use Rattle.layout.proofs.numbers.put_half.Tie as tie
 
-pub put-half-spec : {M : Type 1} → statement M
+pub put_half_spec : {M : Type 1} → statement M
 unfolding number digits
-put-half-spec =
+put_half_spec =
     tie.close
     (tie.spec
     (λ c. search rules)

@@ -4,9 +4,9 @@ use Rattle.codec.specs.Number.{truth, bit}
 use Rattle.layout.proofs.numbers.put_truth.Statement.{statement}
 use Rattle.layout.proofs.numbers.put_truth.Tie as tie
 
-pub put-truth-spec : {M : Type 1} → statement M
+pub put_truth_spec : {M : Type 1} → statement M
 unfolding truth
-put-truth-spec =
+put_truth_spec =
     tie.close
     (tie.spec
     (λ c. search rules)

@@ -6,9 +6,9 @@ use Rattle.codec.specs.Number.{number, digits}
 use Rattle.layout.proofs.numbers.put_word.Statement.{statement}
 use Rattle.layout.proofs.numbers.put_word.Tie as tie
 
-pub put-word-spec : {M : Type 1} → statement M
+pub put_word_spec : {M : Type 1} → statement M
 unfolding number digits
-put-word-spec =
+put_word_spec =
     tie.close
     (tie.spec
     (λ c. search rules)

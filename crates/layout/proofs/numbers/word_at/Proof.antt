@@ -3,8 +3,8 @@ use Rattle.codec.specs.Number.{word_sum}
 use Rattle.layout.proofs.numbers.word_at.Statement.{statement}
 use Rattle.layout.proofs.numbers.word_at.Tie as tie
 
-pub word-at-spec : {M : Type 1} → statement M
-word-at-spec =
+pub word_at_spec : {M : Type 1} → statement M
+word_at_spec =
     tie.close
     (tie.spec
     (λ c. search rules)

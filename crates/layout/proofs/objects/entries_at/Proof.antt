@@ -4,9 +4,9 @@ use Rattle.layout.specs.Layout.{entries}
 use Rattle.layout.proofs.objects.entries_at.Statement.{statement}
 use Rattle.layout.proofs.objects.entries_at.Tie as tie
 
-pub entries-at-spec : {M : Type 1} → statement M
+pub entries_at_spec : {M : Type 1} → statement M
 unfolding entries
-entries-at-spec =
+entries_at_spec =
     tie.close
     (tie.spec
     (λ c κs. search rules)

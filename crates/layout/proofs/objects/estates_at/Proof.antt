@@ -4,9 +4,9 @@ use Rattle.layout.specs.Layout.{estates}
 use Rattle.layout.proofs.objects.estates_at.Statement.{statement}
 use Rattle.layout.proofs.objects.estates_at.Tie as tie
 
-pub estates-at-spec : {M : Type 1} → statement M
+pub estates_at_spec : {M : Type 1} → statement M
 unfolding estates
-estates-at-spec =
+estates_at_spec =
     tie.close
     (tie.spec
     (λ c κs. search rules)

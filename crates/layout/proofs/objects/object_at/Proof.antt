@@ -5,9 +5,9 @@ use Rattle.layout.specs.Layout.{object}
 use Rattle.layout.proofs.objects.object_at.Statement.{statement}
 use Rattle.layout.proofs.objects.object_at.Tie as tie
 
-pub object-at-spec : {M : Type 1} → statement M
+pub object_at_spec : {M : Type 1} → statement M
 unfolding object
-object-at-spec =
+object_at_spec =
     tie.close
     (tie.spec
     (λ c. search rules)

@@ -5,9 +5,9 @@ use Rattle.layout.specs.Layout.{objects}
 use Rattle.layout.proofs.objects.objects_at.Statement.{statement}
 use Rattle.layout.proofs.objects.objects_at.Tie as tie
 
-pub objects-at-spec : {M : Type 1} → statement M
+pub objects_at_spec : {M : Type 1} → statement M
 unfolding objects
-objects-at-spec =
+objects_at_spec =
     tie.close
     (tie.spec
     (λ c κs. search rules)

@@ -5,9 +5,9 @@ use Rattle.layout.specs.Layout.{password}
 use Rattle.layout.proofs.objects.password_at.Statement.{statement}
 use Rattle.layout.proofs.objects.password_at.Tie as tie
 
-pub password-at-spec : {M : Type 1} → statement M
+pub password_at_spec : {M : Type 1} → statement M
 unfolding password
-password-at-spec =
+password_at_spec =
     tie.close
     (tie.spec
     (λ c κs. search rules)

@@ -4,9 +4,9 @@ use Rattle.layout.specs.Layout.{passwords}
 use Rattle.layout.proofs.objects.passwords_at.Statement.{statement}
 use Rattle.layout.proofs.objects.passwords_at.Tie as tie
 
-pub passwords-at-spec : {M : Type 1} → statement M
+pub passwords_at_spec : {M : Type 1} → statement M
 unfolding passwords
-passwords-at-spec =
+passwords_at_spec =
     tie.close
     (tie.spec
     (λ c κs. search rules)

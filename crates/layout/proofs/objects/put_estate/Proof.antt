@@ -3,9 +3,9 @@ use Rattle.layout.specs.Layout.{estate}
 use Rattle.layout.proofs.objects.put_estate.Statement.{statement}
 use Rattle.layout.proofs.objects.put_estate.Tie as tie
 
-pub put-estate-spec : {M : Type 1} → statement M
+pub put_estate_spec : {M : Type 1} → statement M
 unfolding estate
-put-estate-spec =
+put_estate_spec =
     tie.close
     (tie.spec
     (λ c κs. search rules)

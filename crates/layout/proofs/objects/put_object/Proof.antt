@@ -6,9 +6,9 @@ use native.Mathlib.Nat.{add_assoc}
 use Rattle.layout.proofs.objects.put_object.Statement.{statement}
 use Rattle.layout.proofs.objects.put_object.Tie as tie
 
-pub put-object-spec : {M : Type 1} → statement M
+pub put_object_spec : {M : Type 1} → statement M
 unfolding object
-put-object-spec =
+put_object_spec =
     tie.close
     (tie.spec
     (λ c κs. search rules)

@@ -1,28 +1,28 @@
 use Prim.Native.Nat.{◌-◌}
 use lib.ListN.{get_or}
 use borrow.Author.Rules.{rules}
-use Rattle.codec.specs.Loop.{Laying, laying-none, laying-more, laying-all}
-use Rattle.state.specs.Places.{noObject}
+use Rattle.codec.specs.Loop.{Laying, laying_none, laying_more, laying_all}
+use Rattle.state.specs.Places.{no_object}
 use Rattle.layout.specs.Layout.{object, objects}
 use Rattle.layout.proofs.objects.put_objects.Statement.{statement}
 use Rattle.layout.proofs.objects.put_objects.Tie as tie
 
-abbrev invariant-loop : tie.invariant-loop
-invariant-loop s₀ at v i₀ s i = Laying object (λ j. get_or v j noObject) 8 s₀ at s i
+abbrev invariant_loop : tie.invariant_loop
+invariant_loop s₀ at v i₀ s i = Laying object (λ j. get_or v j no_object) 8 s₀ at s i
 
-abbrev decreases-loop : tie.decreases-loop
-decreases-loop s₀ at v i₀ s i = 8 - i
+abbrev decreases_loop : tie.decreases_loop
+decreases_loop s₀ at v i₀ s i = 8 - i
 
-pub put-objects-spec : {M : Type 1} → statement M
+pub put_objects_spec : {M : Type 1} → statement M
 unfolding objects
-put-objects-spec =
+put_objects_spec =
     tie.close
-    (tie.spec invariant-loop decreases-loop (λ c. laying-none _ _ _ _ _) (λ c. search rules) (λ c. search rules) (λ c. search rules)
+    (tie.spec invariant_loop decreases_loop (λ c. laying_none _ _ _ _ _) (λ c. search rules) (λ c. search rules) (λ c. search rules)
     (λ c. search rules) (λ c κs. search rules) (λ c. search rules) (λ c. search rules)
     (λ c.
-    laying-more _ _ _ _ _ c.before.before.before.before.before.before.loop.invariant (search rules)
+    laying_more _ _ _ _ _ c.before.before.before.before.before.before.loop.invariant (search rules)
     c.before.before.put-object.ensures.0 c.before.before.put-object.ensures.1)
     (λ c. search rules)
     (λ c.
     let b = c.before.before.before in
-    laying-all object noObject b.args.t3 8 _ _ c.before.loop.invariant (search rules) b.well-formed.1.1.0.1.0.1))
+    laying_all object no_object b.args.t3 8 _ _ c.before.loop.invariant (search rules) b.well-formed.1.1.0.1.0.1))

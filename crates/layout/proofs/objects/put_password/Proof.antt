@@ -5,9 +5,9 @@ use Rattle.codec.specs.Number.{number}
 use Rattle.layout.proofs.objects.put_password.Statement.{statement}
 use Rattle.layout.proofs.objects.put_password.Tie as tie
 
-pub put-password-spec : {M : Type 1} → statement M
+pub put_password_spec : {M : Type 1} → statement M
 unfolding password
-put-password-spec =
+put_password_spec =
     tie.close
     (tie.spec
     (λ c κs. search rules)

@@ -6,9 +6,9 @@ use native.Mathlib.Nat.{add_assoc}
 use Rattle.layout.proofs.objects.put_registration.Statement.{statement}
 use Rattle.layout.proofs.objects.put_registration.Tie as tie
 
-pub put-registration-spec : {M : Type 1} → statement M
+pub put_registration_spec : {M : Type 1} → statement M
 unfolding registration
-put-registration-spec =
+put_registration_spec =
     tie.close
     (tie.spec
     (λ c κs. search rules)

@@ -3,9 +3,9 @@ use Rattle.layout.specs.Layout.{table}
 use Rattle.layout.proofs.objects.put_table.Statement.{statement}
 use Rattle.layout.proofs.objects.put_table.Tie as tie
 
-pub put-table-spec : {M : Type 1} → statement M
+pub put_table_spec : {M : Type 1} → statement M
 unfolding table
-put-table-spec =
+put_table_spec =
     tie.close
     (tie.spec
     (λ c κs. search rules)

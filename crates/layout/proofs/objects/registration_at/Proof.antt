@@ -5,9 +5,9 @@ use Rattle.layout.specs.Layout.{registration}
 use Rattle.layout.proofs.objects.registration_at.Statement.{statement}
 use Rattle.layout.proofs.objects.registration_at.Tie as tie
 
-pub registration-at-spec : {M : Type 1} → statement M
+pub registration_at_spec : {M : Type 1} → statement M
 unfolding registration
-registration-at-spec =
+registration_at_spec =
     tie.close
     (tie.spec
     (λ c κs. search rules)

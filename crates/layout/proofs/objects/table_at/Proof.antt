@@ -3,9 +3,9 @@ use Rattle.layout.specs.Layout.{table}
 use Rattle.layout.proofs.objects.table_at.Statement.{statement}
 use Rattle.layout.proofs.objects.table_at.Tie as tie
 
-pub table-at-spec : {M : Type 1} → statement M
+pub table_at_spec : {M : Type 1} → statement M
 unfolding table
-table-at-spec =
+table_at_spec =
     tie.close
     (tie.spec
     (λ c κs. search rules)

@@ -5,9 +5,9 @@ use Rattle.layout.specs.Laws.States.{wrote, left}
 use Rattle.layout.proofs.states.put_state.Statement.{statement}
 use Rattle.layout.proofs.states.put_state.Tie as tie
 
-pub put-state-spec : {M : Type 1} → statement M
+pub put_state_spec : {M : Type 1} → statement M
 unfolding state
-put-state-spec =
+put_state_spec =
     tie.close
     (tie.spec
     (λ c. left _ _ c.if1.true)

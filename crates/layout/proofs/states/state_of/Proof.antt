@@ -6,9 +6,9 @@ use Rattle.layout.specs.Whole.{state_of}
 use Rattle.layout.proofs.states.state_of.Statement.{statement}
 use Rattle.layout.proofs.states.state_of.Tie as tie
 
-pub state-of-spec : {M : Type 1} → statement M
+pub state_of_spec : {M : Type 1} → statement M
 unfolding state state_of
-state-of-spec =
+state_of_spec =
     tie.close
     (tie.spec
     (λ c κs. search rules)

@@ -3,8 +3,8 @@ use borrow.Author.Rules.{rules}
 use Rattle.lines.proofs.fields.after.Statement.{statement}
 use Rattle.lines.proofs.fields.after.Tie as tie
 
-pub after-spec : {M : Type 1} → statement M
-after-spec =
+pub after_spec : {M : Type 1} → statement M
+after_spec =
     tie.close
     (tie.spec (λ c. simp (lt-leb _ _ c.if1.true)) (λ c. simp (le-leb _ _ c.before.if1.false, lt-leb _ _ c.if2.true))
     (λ c. search rules) (λ c. search rules)

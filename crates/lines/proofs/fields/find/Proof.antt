@@ -3,34 +3,34 @@ use mathlib.Core.Path.{◌≡◌}
 use mathlib.Core.List.{List}
 use native.Mathlib.Omega.{arith}
 use lib.ListN.{length, drop, get_or}
-use Rattle.lines.specs.Until.{until, Seeking, seeking-none, seeking-more, seeking-found, seeking-all, until-within}
+use Rattle.lines.specs.Until.{until, Seeking, seeking_none, seeking_more, seeking_found, seeking_all, until_within}
 use borrow.Author.Rules.{rules}
 use Rattle.lines.proofs.fields.find.Statement.{statement}
 use Rattle.lines.proofs.fields.find.Tie as tie
 
 -- no b stands before byte i, which is in the text or its end
-abbrev Inv : tie.invariant-loop
+abbrev Inv : tie.invariant_loop
 Inv s from b i₀ i = Seeking b s from i × (i ≤ length s)
 
-abbrev μ : tie.decreases-loop
+abbrev μ : tie.decreases_loop
 μ s from b i₀ i = length s - i
 
--- what is promised of a result i
+-- what is promised of a result_of i
 abbrev Answer : ℕ → List ℕ → ℕ → ℕ → Type 0
 Answer b s from i = (i ≡ from + until b (drop from s)) × (from ≤ i) × (i ≤ from + (length s - from))
 
 module _ {b : ℕ} {s : List ℕ} {from i : ℕ} (k : Seeking b s from i) where
   answer : i ≡ from + until b (drop from s) → Answer b s from i
-  answer e = (e, k.start, until-within _ _ _ e)
+  answer e = (e, k.start, until_within _ _ _ e)
 
   found : i < length s → get_or s i 0 ≡ b → Answer b s from i
-  found h n = answer (seeking-found k h n)
+  found h n = answer (seeking_found k h n)
 
   over : length s ≤ i → Answer b s from i
-  over h = answer (seeking-all k h)
+  over h = answer (seeking_all k h)
 
   past : (j : ℕ) → j ≡ i + 1 → i < length s → (get_or s i 0 ≡ b → ⊥) → Seeking b s from j
-  past j e h n = rw e (seeking-more k h n)
+  past j e h n = rw e (seeking_more k h n)
 
 -- past the first k bytes of a turn
 abbrev Past : tie.Else2 Inv μ Inv μ → ℕ → Type 0
@@ -54,8 +54,8 @@ pub find_spec : {M : Type 1} → statement M
 find_spec =
     tie.close
     (tie.spec Inv μ Inv μ
-    (λ c. over seeking-none c.if1.true)
-    (λ c. (seeking-none, omega arith)) (λ c. search rules) (λ c. search rules)
+    (λ c. over seeking_none c.if1.true)
+    (λ c. (seeking_none, omega arith)) (λ c. search rules) (λ c. search rules)
     (λ c. found c.before.before.before.loop.invariant.0 (omega arith) c.if2.true)
     (λ c. search rules) (λ c. search rules) (λ c. search rules)
     (λ c. found (past1 c.before.before) (omega arith) c.if3.true)

@@ -1,11 +1,11 @@
 use borrow.Author.Tests.{ne_eqb}
-use Rattle.lines.specs.Letters.{mnemonicOf}
+use Rattle.lines.specs.Letters.{mnemonic_of}
 use Rattle.lines.proofs.fields.mnemonic_of.Statement.{statement}
 use Rattle.lines.proofs.fields.mnemonic_of.Tie as tie
 
-pub mnemonic-of-spec : {M : Type 1} → statement M
-unfolding mnemonicOf
-mnemonic-of-spec =
+pub mnemonic_of_spec : {M : Type 1} → statement M
+unfolding mnemonic_of
+mnemonic_of_spec =
     tie.close
     (tie.spec (λ c. rw c.match.keys1) (λ c. rw c.match.keys2) (λ c. rw c.match.keys3) (λ c. rw c.match.keys4)
     (λ c. rw c.match.keys5) (λ c. rw c.match.keys6) (λ c. rw c.match.keys7) (λ c. rw c.match.keys8)

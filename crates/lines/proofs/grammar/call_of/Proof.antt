@@ -4,9 +4,9 @@ use borrow.Author.Rules.{rules}
 use Rattle.lines.proofs.grammar.call_of.Statement.{statement}
 use Rattle.lines.proofs.grammar.call_of.Tie as tie
 
-pub call-of-spec : {M : Type 1} → statement M
+pub call_of_spec : {M : Type 1} → statement M
 unfolding call_of
-call-of-spec =
+call_of_spec =
     tie.close
     (tie.spec
     (λ c. search rules) (λ c κs. search rules) (λ c plan. c.on_store.ensures plan ∙ rw c.before.enum_told.given.1)

@@ -3,8 +3,8 @@ use borrow.Author.Rules.{rules}
 use Rattle.replies.proofs.kinds.object_line.Statement.{statement}
 use Rattle.replies.proofs.kinds.object_line.Tie as tie
 
-pub object-line-spec : {M : Type 1} → statement M
-object-line-spec =
+pub object_line_spec : {M : Type 1} → statement M
+object_line_spec =
     tie.close
     (tie.spec (λ c κs. search rules) (λ c κs. search rules) (λ c κs. search rules) (λ c. search rules) (λ c κs. search rules) (λ c. search rules) (λ c. search rules)
     (λ c.

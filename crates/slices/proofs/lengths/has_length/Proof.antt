@@ -7,5 +7,5 @@ use Rattle.slices.proofs.lengths.has_length.Tie as tie
 returns : tie.Need-returns
 returns c = refl
 
-pub has-length-spec : {M : Type 1} → statement M
-has-length-spec = tie.close (search (tie.spec, returns, rules))
+pub has_length_spec : {M : Type 1} → statement M
+has_length_spec = tie.close (search (tie.spec, returns, rules))

@@ -2,8 +2,8 @@ use borrow.Author.Tests.{eq-eqb, ne_eqb}
 use Rattle.slices.proofs.lengths.wrong_length.Statement.{statement}
 use Rattle.slices.proofs.lengths.wrong_length.Tie as tie
 
-pub wrong-length-spec : {M : Type 1} → statement M
-wrong-length-spec =
+pub wrong_length_spec : {M : Type 1} → statement M
+wrong_length_spec =
     tie.close
     (tie.spec
     (λ c. rw (ne_eqb _ _ c.if1.true))

@@ -4,9 +4,9 @@ use Rattle.slices.specs.Slices.{cleared}
 use Rattle.slices.proofs.values.refuse.Statement.{statement}
 use Rattle.slices.proofs.values.refuse.Tie as tie
 
-pub refuse-spec : {M : Type 1} → statement M
+pub refuse_spec : {M : Type 1} → statement M
 unfolding cleared
-refuse-spec =
+refuse_spec =
     tie.close
     (tie.spec
     (λ c κs. search rules)

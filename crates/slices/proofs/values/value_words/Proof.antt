@@ -5,5 +5,5 @@ use Rattle.slices.proofs.values.value_words.Tie as tie
 returns : tie.Need-returns
 returns c = cc
 
-pub value-words-spec : {M : Type 1} → statement M
-value-words-spec = tie.close (search (tie.spec, returns, rules))
+pub value_words_spec : {M : Type 1} → statement M
+value_words_spec = tie.close (search (tie.spec, returns, rules))

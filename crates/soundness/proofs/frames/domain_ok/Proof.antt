@@ -2,12 +2,12 @@ use lib.ListN.{length-map}
 use borrow.Author.Tests.{eq-eqb}
 use borrow.Author.Rules.{rules}
 use Rattle.bounded.specs.Every.{below}
-use Rattle.soundness.specs.Sound.{savedOk, domainOk}
+use Rattle.soundness.specs.Sound.{saved_ok, domain_ok}
 use Rattle.soundness.proofs.frames.domain_ok.Statement.{statement}
 use Rattle.soundness.proofs.frames.domain_ok.Tie as tie
 
 returns : tie.Need-returns
-unfolding domainOk savedOk below
+unfolding domain_ok saved_ok below
 returns c =
     let b4 = c.before.before in
     let b3 = b4.before.before in
@@ -23,8 +23,8 @@ returns c =
       b1.frame-ok.ensures,
     )
 
-pub domain-ok-spec : {M : Type 1} → statement M
-domain-ok-spec =
+pub domain_ok_spec : {M : Type 1} → statement M
+domain_ok_spec =
     tie.close
     (tie.spec (λ c. search rules) (λ c κs. search rules) (λ c. search rules) (λ c κs. search rules)
     (λ c. search rules) (λ c κs. search rules) (λ c. search rules) (λ c κs. search rules) (λ c κs. search rules)

@@ -1,12 +1,12 @@
 use borrow.Author.Rules.{rules}
 use Rattle.bounded.specs.Every.{below}
-use Rattle.soundness.specs.Sound.{frameBounds}
-use Rattle.soundness.specs.Laws.Reach.{slots-reach}
+use Rattle.soundness.specs.Sound.{frame_bounds}
+use Rattle.soundness.specs.Laws.Reach.{slots_reach}
 use Rattle.soundness.proofs.frames.frame_bounds.Statement.{statement}
 use Rattle.soundness.proofs.frames.frame_bounds.Tie as tie
 
 returns : tie.Need-returns
-unfolding frameBounds below
+unfolding frame_bounds below
 returns c =
     let b8 = c.before in
     let b7 = b8.before.before in
@@ -16,12 +16,12 @@ returns c =
     let b3 = b4.before.before in
     let b2 = b3.before.before in
     let b1 = b2.before.before in
-    rw (← slots-reach b1.before.before.args.t1, c.slots-reach.ensures)
+    rw (← slots_reach b1.before.before.args.t1, c.slots_reach.ensures)
     (rw (b8.names-page8.ensures, b7.names-page7.ensures, b6.names-page6.ensures, b5.names-page5.ensures)
     (rw (b4.names-page4.ensures, b3.names-page3.ensures, b2.names-page2.ensures, b1.names-page.ensures)))
 
-pub frame-bounds-spec : {M : Type 1} → statement M
-frame-bounds-spec =
+pub frame_bounds_spec : {M : Type 1} → statement M
+frame_bounds_spec =
     tie.close
     (tie.spec (λ c. search rules) (λ c κs. search rules) (λ c. search rules) (λ c κs. search rules)
     (λ c. search rules) (λ c κs. search rules) (λ c. search rules) (λ c κs. search rules) (λ c. search rules)

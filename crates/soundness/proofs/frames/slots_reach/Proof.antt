@@ -16,8 +16,8 @@ returns c =
     rw (c.reach-slot8.ensures, b7.reach-slot7.ensures, b6.reach-slot6.ensures, b5.reach-slot5.ensures)
     (rw (b4.reach-slot4.ensures, b3.reach-slot3.ensures, b2.reach-slot2.ensures, b1.reach-slot.ensures))
 
-pub slots-reach-spec : {M : Type 1} → statement M
-slots-reach-spec =
+pub slots_reach_spec : {M : Type 1} → statement M
+slots_reach_spec =
     tie.close
     (tie.spec (λ c. search rules) (λ c κs. search rules) (λ c. search rules) (λ c κs. search rules)
     (λ c. search rules) (λ c κs. search rules) (λ c. search rules) (λ c κs. search rules) (λ c. search rules)

@@ -7,5 +7,5 @@ returns : tie.Need-returns
 unfolding absent distinct
 returns c = simp (and-true, or-true)
 
-pub all-distinct-spec : {M : Type 1} → statement M
-all-distinct-spec = tie.close (tie.spec returns)
+pub all_distinct_spec : {M : Type 1} → statement M
+all_distinct_spec = tie.close (tie.spec returns)

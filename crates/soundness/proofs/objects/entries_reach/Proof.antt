@@ -11,8 +11,8 @@ returns c =
     let b1 = b2.before.before in
     rw (c.reach-entry4.ensures, b3.reach-entry3.ensures, b2.reach-entry2.ensures, b1.reach-entry.ensures)
 
-pub entries-reach-spec : {M : Type 1} → statement M
-entries-reach-spec =
+pub entries_reach_spec : {M : Type 1} → statement M
+entries_reach_spec =
     tie.close
     (tie.spec (λ c. search rules) (λ c κs. search rules) (λ c. search rules) (λ c κs. search rules)
     (λ c. search rules) (λ c κs. search rules) (λ c. search rules) (λ c κs. search rules) returns)

@@ -1,11 +1,11 @@
 use borrow.Author.Rules.{rules}
 use Rattle.bounded.specs.Every.{below}
-use Rattle.soundness.specs.Sound.{orderedAt}
+use Rattle.soundness.specs.Sound.{ordered_at}
 use Rattle.soundness.proofs.objects.in_order.Statement.{statement}
 use Rattle.soundness.proofs.objects.in_order.Tie as tie
 
 returns : tie.Need-returns
-unfolding orderedAt below
+unfolding ordered_at below
 returns c =
     let b6 = c.before.before.before in
     let b5 = b6.before.before.before in
@@ -16,8 +16,8 @@ returns c =
     rw (c.follows7.ensures, b6.follows6.ensures, b5.follows5.ensures, b4.follows4.ensures)
     (rw (b3.follows3.ensures, b2.follows2.ensures, b1.follows.ensures))
 
-pub in-order-spec : {M : Type 1} → statement M
-in-order-spec =
+pub in_order_spec : {M : Type 1} → statement M
+in_order_spec =
     tie.close
     (tie.spec (λ c. search rules) (λ c. search rules) (λ c κs. search rules) (λ c. search rules) (λ c. search rules) (λ c κs. search rules)
     (λ c. search rules) (λ c. search rules) (λ c κs. search rules) (λ c. search rules) (λ c. search rules) (λ c κs. search rules)

@@ -2,12 +2,12 @@ use lib.ListN.{length-map}
 use borrow.Author.Tests.{eq-eqb}
 use borrow.Author.Rules.{rules}
 use Rattle.bounded.specs.Every.{below}
-use Rattle.soundness.specs.Sound.{passwordOk, passwordsOk, objectBounds, objectOk}
+use Rattle.soundness.specs.Sound.{password_ok, passwords_ok, object_bounds, object_ok}
 use Rattle.soundness.proofs.objects.object_ok.Statement.{statement}
 use Rattle.soundness.proofs.objects.object_ok.Tie as tie
 
 returns : tie.Need-returns
-unfolding objectOk objectBounds passwordsOk passwordOk below
+unfolding object_ok object_bounds passwords_ok password_ok below
 returns c =
     let w = c.before.before in
     let b4 = w.before in
@@ -19,8 +19,8 @@ returns c =
     (rw (c.Place-ok.ensures, c.before.registration-ok.ensures, w.passwords-placed.ensures)
     (rw (b4.password-ok4.ensures, b3.password-ok3.ensures, b2.password-ok2.ensures, b1.password-ok.ensures)))
 
-pub object-ok-spec : {M : Type 1} → statement M
-object-ok-spec =
+pub object_ok_spec : {M : Type 1} → statement M
+object_ok_spec =
     tie.close
     (tie.spec (λ c. search rules) (λ c κs. search rules) (λ c. search rules) (λ c κs. search rules)
     (λ c. search rules) (λ c κs. search rules) (λ c. search rules) (λ c κs. search rules) (λ c κs. search rules)

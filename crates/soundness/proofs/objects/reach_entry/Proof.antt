@@ -5,10 +5,10 @@ use Rattle.soundness.proofs.objects.reach_entry.Tie as tie
 returns : tie.Need-returns
 returns c = rw (eq-eqb _ 0 c.if1.true)
 
-returns-2 : tie.Need-returns-2
-returns-2 c = rw (ne_eqb _ 0 c.if1.false)
+returns_2 : tie.Need-returns-2
+returns_2 c = rw (ne_eqb _ 0 c.if1.false)
 
-pub reach-entry-spec : {M : Type 1} → statement M
-reach-entry-spec =
+pub reach_entry_spec : {M : Type 1} → statement M
+reach_entry_spec =
     tie.close
-    (tie.spec returns returns-2)
+    (tie.spec returns returns_2)

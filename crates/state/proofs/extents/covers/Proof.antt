@@ -3,6 +3,6 @@ use Rattle.state.specs.Extent.{covers}
 use Rattle.state.proofs.extents.covers.Statement.{statement}
 use Rattle.state.proofs.extents.covers.Tie as tie
 
-pub covers-spec : {M : Type 1} → statement M
+pub covers_spec : {M : Type 1} → statement M
 unfolding covers
-covers-spec = tie.close (tie.spec (λ c. search rules) (λ c. search rules) (λ c. search rules) (λ c. search rules))
+covers_spec = tie.close (tie.spec (λ c. search rules) (λ c. search rules) (λ c. search rules) (λ c. search rules))

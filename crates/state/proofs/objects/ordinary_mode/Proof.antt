@@ -1,13 +1,13 @@
 use borrow.Author.Tests.{eq-eqb, ne_eqb}
 use borrow.Author.Rules.{rules}
 use Rattle.bounded.specs.Search.{first}
-use Rattle.state.specs.Lookup.{ordinaryMode}
+use Rattle.state.specs.Lookup.{ordinary_mode}
 use Rattle.state.proofs.objects.ordinary_mode.Statement.{statement}
 use Rattle.state.proofs.objects.ordinary_mode.Tie as tie
 
-pub ordinary-mode-spec : {M : Type 1} → statement M
-unfolding ordinaryMode first
-ordinary-mode-spec =
+pub ordinary_mode_spec : {M : Type 1} → statement M
+unfolding ordinary_mode first
+ordinary_mode_spec =
     tie.close
     (tie.spec (λ c. rw (eq-eqb _ _ c.if1.true))
     (λ c. search rules)

@@ -5,9 +5,9 @@ use Rattle.state.specs.Lookup.{place_of}
 use Rattle.state.proofs.objects.place_of.Statement.{statement}
 use Rattle.state.proofs.objects.place_of.Tie as tie
 
-pub place-of-spec : {M : Type 1} → statement M
+pub place_of_spec : {M : Type 1} → statement M
 unfolding place_of first
-place-of-spec =
+place_of_spec =
     tie.close
     (tie.spec (λ c. search rules) (λ c. rw (eq-eqb _ _ c.if1.true))
     (λ c. search rules)

@@ -1,15 +1,15 @@
 use Prim.Native.Nat.{◌/◌, ◌≤◌}
 use native.Mathlib.Omega.{arith}
 use borrow.Author.Rules.{rules}
-use Rattle.state.specs.Lookup.{objectBased}
-use Rattle.state.specs.Laws.Lookup.{based-none}
-use Rattle.state.proofs.Past.{past-get}
+use Rattle.state.specs.Lookup.{object_based}
+use Rattle.state.specs.Laws.Lookup.{based_none}
+use Rattle.state.proofs.Past.{past_get}
 use Rattle.state.proofs.tables.object_based.Statement.{statement}
 use Rattle.state.proofs.tables.object_based.Tie as tie
 
-pub object-based-spec : {M : Type 1} → statement M
-unfolding objectBased
-object-based-spec =
+pub object_based_spec : {M : Type 1} → statement M
+unfolding object_based
+object_based_spec =
     tie.close
     (tie.spec (λ c. search rules) (λ c κs. search rules) (λ c. rw c.before.before.if1.true c.based.ensures)
     (λ c. search rules) (λ c κs. search rules) (λ c. rw c.before.before.if2.true c.based2.ensures)
@@ -19,4 +19,4 @@ object-based-spec =
     (λ c.
     let a = c.before.before.before.before.before in
     let h : 4 ≤ a.args.page / 32 = omega arith in
-    rw (past-get _ _ a.well-formed.0.1.1.0.1.0.1 h _, based-none _) c.free-object.ensures))
+    rw (past_get _ _ a.well-formed.0.1.1.0.1.0.1 h _, based_none _) c.free-object.ensures))

@@ -6,8 +6,8 @@ use borrow.Author.Rules.{rules}
 use Rattle.turns.proofs.transfer.write_text.Statement.{statement}
 use Rattle.turns.proofs.transfer.write_text.Tie as tie
 
-pub write-text-spec : {M : Type 1} → statement M
-write-text-spec =
+pub write_text_spec : {M : Type 1} → statement M
+write_text_spec =
     tie.close
     (tie.spec (λ text from₀ tries₀ from tries. from ≤ length text) (λ text from₀ tries₀ from tries. tries)
     (λ c. search rules) (λ c e. absurd (omega (arith, c.before.loop-test.true))) (λ c. search rules) (λ c. search rules) (λ c. search rules) (λ c. search rules) (λ c κs. search rules)

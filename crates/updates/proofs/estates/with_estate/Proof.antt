@@ -3,8 +3,8 @@ use Rattle.updates.proofs.Past.{past}
 use Rattle.updates.proofs.estates.with_estate.Statement.{statement}
 use Rattle.updates.proofs.estates.with_estate.Tie as tie
 
-pub with-estate-spec : {M : Type 1} → statement M
-with-estate-spec =
+pub with_estate_spec : {M : Type 1} → statement M
+with_estate_spec =
     tie.close
     (tie.spec
     (λ c. rw (past _ _ c.before.well-formed.0.1.1.0.1.1.0.1.0.1 c.if1.true))

@@ -3,8 +3,8 @@ use Rattle.updates.proofs.Past.{past}
 use Rattle.updates.proofs.estates.with_object.Statement.{statement}
 use Rattle.updates.proofs.estates.with_object.Tie as tie
 
-pub with-object-spec : {M : Type 1} → statement M
-with-object-spec =
+pub with_object_spec : {M : Type 1} → statement M
+with_object_spec =
     tie.close
     (tie.spec
     (λ c. rw (past _ _ c.before.well-formed.0.1.1.0.1.0.1 c.if1.true))

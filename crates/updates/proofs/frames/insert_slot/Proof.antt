@@ -1,12 +1,12 @@
 use borrow.Author.Tests.{lt-ltb, le-ltb}
 use borrow.Author.Rules.{rules}
-use Rattle.state.specs.Update.{insertSlot}
+use Rattle.state.specs.Update.{insert_slot}
 use Rattle.updates.proofs.frames.insert_slot.Statement.{statement}
 use Rattle.updates.proofs.frames.insert_slot.Tie as tie
 
-pub insert-slot-spec : {M : Type 1} → statement M
-unfolding insertSlot
-insert-slot-spec =
+pub insert_slot_spec : {M : Type 1} → statement M
+unfolding insert_slot
+insert_slot_spec =
     tie.close
     (tie.spec (λ c. rw (le-ltb _ _ c.if1.true)) (λ c κs. search rules) (λ c κs. search rules)
     (λ c κs. search rules) (λ c κs. search rules) (λ c κs. search rules) (λ c κs. search rules)

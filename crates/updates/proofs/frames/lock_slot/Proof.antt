@@ -3,13 +3,13 @@ use mathlib.Core.Path.{◌≡◌}
 use native.Mathlib.Omega.{arith}
 use borrow.Author.Tests.{eq-eqb, ne_eqb}
 use borrow.Author.Rules.{rules}
-use Rattle.state.specs.Update.{lockSlot}
+use Rattle.state.specs.Update.{lock_slot}
 use Rattle.updates.proofs.frames.lock_slot.Statement.{statement}
 use Rattle.updates.proofs.frames.lock_slot.Tie as tie
 
-pub lock-slot-spec : {M : Type 1} → statement M
-unfolding lockSlot
-lock-slot-spec =
+pub lock_slot_spec : {M : Type 1} → statement M
+unfolding lock_slot
+lock_slot_spec =
     tie.close
     (tie.spec (λ c. rw (eq-eqb _ _ c.if1.true)) (λ c. search rules)
     (λ c. let a = c.before.before.args in

@@ -3,13 +3,13 @@ use mathlib.Core.Path.{◌≡◌}
 use native.Mathlib.Omega.{arith}
 use borrow.Author.Tests.{eq-eqb, ne_eqb}
 use borrow.Author.Rules.{rules}
-use Rattle.state.specs.Update.{mergeList}
+use Rattle.state.specs.Update.{merge_list}
 use Rattle.updates.proofs.frames.merge_list.Statement.{statement}
 use Rattle.updates.proofs.frames.merge_list.Tie as tie
 
-pub merge-list-spec : {M : Type 1} → statement M
-unfolding mergeList
-merge-list-spec =
+pub merge_list_spec : {M : Type 1} → statement M
+unfolding merge_list
+merge_list_spec =
     tie.close
     (tie.spec (λ c κs. search rules)
     (λ c. rw (ne_eqb _ _ c.before.if1.true) c.insert-slot.ensures)

@@ -3,8 +3,8 @@ use borrow.Author.Rules.{rules}
 use Rattle.updates.proofs.frames.slot_out.Statement.{statement}
 use Rattle.updates.proofs.frames.slot_out.Tie as tie
 
-pub slot-out-spec : {M : Type 1} → statement M
-slot-out-spec =
+pub slot_out_spec : {M : Type 1} → statement M
+slot_out_spec =
     tie.close
     (tie.spec (λ c. search rules) (λ c. search rules) (λ c. simp (lt-ltb _ _ c.before.if1.true))
     (λ c. search rules) (λ c. search rules) (λ c. search rules)
