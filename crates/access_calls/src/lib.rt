@@ -1,4 +1,5 @@
 // The calls that access the store: RD, WR, EX and LK. An access leaves the state as it is.
+#![tactic(auto)]
 ghost use Rattle.std.specs.Prelude.{◌≡◌, length};
 ghost use Rattle.judge.specs.Judged.{judged};
 ghost use Rattle.judge.specs.declared.Target.TheVariants.{Address};
@@ -12,7 +13,7 @@ use rights::Rights;
 use state::{Frame, Table};
 
 // Whether rights at an address are granted: the address of the granting pair, or why not.
-#[derive(Drop)]
+#[derive(Clone, Copy)]
 enum Grant {
     Granted(u64),
     Refused(Refusal),

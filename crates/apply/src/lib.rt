@@ -1,4 +1,5 @@
 // Any call by any domain: the door of the monitor beside `boot`.
+#![tactic(auto)]
 ghost use Rattle.std.specs.Prelude.{◌≡◌, ◌<◌};
 ghost use Rattle.calls.specs.Step.{world, result_of, step, unchecked};
 ghost use Rattle.calls.specs.Parts.{Alters, Moves};

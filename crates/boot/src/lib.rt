@@ -1,4 +1,5 @@
 // BT: the state and the store that a boot leaves.
+#![tactic(auto)]
 ghost use Rattle.std.specs.Prelude.{true, ◌≡◌, ◌<◌, length};
 ghost use Rattle.calls.specs.Boot.{account_of, home_estate, home_domain, boot_accounts, boot_state, home_pair, boot_words, plan_ok, booted_by, boot};
 ghost use Rattle.calls.specs.Step.{result_of};

@@ -1,4 +1,5 @@
 // Any call on the three slices: the image of the state, the store's bytes, and the values that come back.
+#![tactic(auto)]
 ghost use Rattle.std.specs.Prelude.{◌≡◌, cond};
 ghost use Rattle.image.specs.Image.{written};
 ghost use Rattle.byte_calls.specs.Called.{slices, told, is_done, told_by, called, booted};
@@ -19,7 +20,7 @@ mod changes;
 mod store;
 
 // What a done call can have changed: the state or not, and a run of the store's words.
-#[derive(Drop)]
+#[derive(Clone, Copy)]
 pub struct Changed {
     pub state: bool,
     pub from: usize,

@@ -1,4 +1,5 @@
 // The calls of the monitor.
+#![tactic(auto)]
 ghost use Rattle.std.specs.Prelude.{◌≡◌};
 ghost use Rattle.calls.specs.Step.{world, admitted};
 ghost use Rattle.calls.specs.Parts.{caller_of};
@@ -10,7 +11,7 @@ pub mod replies;
 pub mod words;
 
 // A call with its arguments, as they come, by what it works on.
-#[derive(Drop)]
+#[derive(Clone, Copy)]
 pub enum Call {
     OnStore(Access),
     OnObject(ObjectCall),
@@ -18,7 +19,7 @@ pub enum Call {
 }
 
 // Accesses to the store: RD, WR, EX, LK.
-#[derive(Drop)]
+#[derive(Clone, Copy)]
 pub enum Access {
     Read { address: u64 },
     Write { address: u64, value: u64 },
@@ -27,7 +28,7 @@ pub enum Access {
 }
 
 // Calls on objects: CR, DL, AP, DP, RG.
-#[derive(Drop)]
+#[derive(Clone, Copy)]
 pub enum ObjectCall {
     Create {
         page: u64,
@@ -56,7 +57,7 @@ pub enum ObjectCall {
 }
 
 // Calls on the caller's protection domain: IN, RM, GT, LO, CA, RT.
-#[derive(Drop)]
+#[derive(Clone, Copy)]
 pub enum DomainCall {
     Insert { slot: u64, list: Presented },
     Remove { slot: u64 },
@@ -67,14 +68,14 @@ pub enum DomainCall {
 }
 
 // A Clist capability as a caller presents it.
-#[derive(Drop)]
+#[derive(Clone, Copy)]
 pub struct Presented {
     pub page: u64,
     pub password: u64,
 }
 
 // The entries of a registration: how many, and the first four. What stands past the count is no argument.
-#[derive(Drop)]
+#[derive(Clone, Copy)]
 pub struct Entries {
     pub count: u64,
     pub first: u64,
@@ -91,7 +92,7 @@ pub const STORE_WORDS: usize = 8192;
 pub const BOOT_NUMBERS: usize = 16;
 
 // Why a call is refused, in checking order.
-#[derive(Drop)]
+#[derive(Clone, Copy)]
 pub enum Refusal {
     StoreLength,
     Unsound,
@@ -108,21 +109,21 @@ pub enum Refusal {
     Missing,
 }
 
-#[derive(Drop)]
+#[derive(Clone, Copy)]
 pub enum Answer {
     Done(u64),
     Refused(Refusal),
 }
 
 // What a done Get reports: `count` numbers. All zero for any other answer.
-#[derive(Drop)]
+#[derive(Clone, Copy)]
 pub struct Fields {
     pub count: u64,
     pub values: [u64; 11],
 }
 
 // The answer of a call, beside the new state.
-#[derive(Drop)]
+#[derive(Clone, Copy)]
 pub struct Outcome {
     pub answer: Answer,
     pub fields: Fields,
@@ -130,7 +131,7 @@ pub struct Outcome {
 }
 
 // The answer of a call on objects, beside an estate: the one that it changed, or one as it is where it changed none.
-#[derive(Drop)]
+#[derive(Clone, Copy)]
 pub struct Altered {
     pub answer: Answer,
     pub place: usize,
@@ -138,7 +139,7 @@ pub struct Altered {
 }
 
 // The answer of a call on the caller's domain, beside that domain.
-#[derive(Drop)]
+#[derive(Clone, Copy)]
 pub struct Moved {
     pub answer: Answer,
     pub fields: Fields,
@@ -146,7 +147,7 @@ pub struct Moved {
 }
 
 // Who calls: a domain below 4, with a store of the right length, or why the call is refused.
-#[derive(Drop)]
+#[derive(Clone, Copy)]
 pub enum Caller {
     Known(usize),
     Refused(Refusal),

@@ -1,1 +1,2 @@
 // No code: runs of calls, computed by the definitions.
+#![tactic(auto)]

@@ -1,4 +1,5 @@
 // The object table at the end of the input: what the programs that print it share.
+#![tactic(auto)]
 ghost use Rattle.ending.specs.Behind.{Left};
 
 use state::Table;

@@ -1,4 +1,5 @@
 // The figures of the accounts as text.
+#![tactic(auto)]
 ghost use Rattle.std.specs.Prelude.{◌≡◌, ◌+◌, ◌≤◌, length, take, drop, replicate};
 ghost use Rattle.text.specs.Puts.{Put};
 ghost use Rattle.figures.specs.Lines.{figure_line, figure_lines};
@@ -8,7 +9,7 @@ use state::Table;
 use text::put_line;
 
 // The first `count` of the bytes are a text; behind them stand zeros.
-#[derive(Drop)]
+#[derive(Clone, Copy)]
 pub struct Text {
     pub bytes: [u8; 168],
     pub count: usize,

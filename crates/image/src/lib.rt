@@ -1,4 +1,5 @@
 // The state as a byte image of one fixed length, and back.
+#![tactic(auto)]
 ghost use Rattle.std.specs.Prelude.{◌≡◌, length};
 ghost use Rattle.soundness.specs.Sound.{sound};
 ghost use Rattle.layout.specs.Sizes.{state_size};
@@ -10,7 +11,7 @@ use soundness::sound;
 use state::State;
 
 // What an image reads as: whether it is readable, and then its state.
-#[derive(Drop)]
+#[derive(Clone, Copy)]
 pub struct Reading {
     pub readable: bool,
     pub state: State,

@@ -1,1 +1,2 @@
 // No code: demand 3, as definitions in specs/ with their proof.
+#![tactic(auto)]

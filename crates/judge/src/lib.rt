@@ -1,4 +1,5 @@
 // How an access is judged.
+#![tactic(auto)]
 ghost use Rattle.std.specs.Prelude.{◌≡◌, cond, ◌||◌, [], ◌*◌, ◌<◌, eqb};
 ghost use Rattle.state.specs.Extent.{free};
 ghost use Rattle.clists.specs.Clist.{named, live, clist};
@@ -16,14 +17,14 @@ use state::{Capability, Frame, Object, Table};
 mod pairs;
 
 // What is asked for: the object at an address, or the object with a base.
-#[derive(Drop)]
+#[derive(Clone, Copy)]
 pub enum Target {
     Address(u64),
     Base(u64),
 }
 
 // What a pair, a Clist or a frame says of the wanted rights: granted by the pair at an address, denied, or nothing.
-#[derive(Drop)]
+#[derive(Clone, Copy)]
 pub enum Verdict {
     Granted(u64),
     Denied,
@@ -31,7 +32,7 @@ pub enum Verdict {
 }
 
 // The judgement: granted, by the pair whose first word is at an address, or refused.
-#[derive(Drop)]
+#[derive(Clone, Copy)]
 pub enum Judgement {
     Granted(u64),
     Refused,

@@ -1,4 +1,5 @@
 // Reading a line of the call program.
+#![tactic(auto)]
 ghost use Rattle.std.specs.Prelude.{◌≡◌, length};
 ghost use Rattle.calls.specs.Boot.{boot_numbers};
 ghost use Rattle.lines.specs.declared.Letters.TheVariants.{Known};
@@ -22,7 +23,7 @@ pub use fields::{find, number};
 pub const LINE_BYTES: usize = 200;
 
 // What a field reads as.
-#[derive(Drop)]
+#[derive(Clone, Copy)]
 pub enum Field {
     Empty,
     Number(u64),
@@ -30,21 +31,21 @@ pub enum Field {
 }
 
 // What the field of the call letters reads as.
-#[derive(Drop)]
+#[derive(Clone, Copy)]
 enum Letters {
     Unknown,
     Known(Named),
 }
 
 // What known letters name.
-#[derive(Drop)]
+#[derive(Clone, Copy)]
 enum Named {
     Boot,
     Call(Mnemonic),
 }
 
 // The letters of each call.
-#[derive(Drop)]
+#[derive(Clone, Copy)]
 enum Mnemonic {
     Rd,
     Wr,
@@ -64,7 +65,7 @@ enum Mnemonic {
 }
 
 // A line that is answered at once, by this number; a boot, whose numbers stand beside it; or a call.
-#[derive(Drop)]
+#[derive(Clone, Copy)]
 pub enum Line {
     Answered(u8),
     Boot { domain: u64 },
@@ -72,13 +73,13 @@ pub enum Line {
 }
 
 // A line that is answered at once, by this number; or how many arguments it has, and the first eight.
-#[derive(Drop)]
+#[derive(Clone, Copy)]
 enum Arguments {
     Answered(u8),
     Numbers(usize, Eight),
 }
 
-#[derive(Drop)]
+#[derive(Clone, Copy)]
 struct Eight(u64, u64, u64, u64, u64, u64, u64, u64);
 
 // Puts one number more behind the n that stand; the first eight are kept.

@@ -1,4 +1,5 @@
 // The objects of the object table as text.
+#![tactic(auto)]
 ghost use Rattle.std.specs.Prelude.{◌≡◌, ◌+◌, ◌≤◌, length, take, drop, replicate};
 ghost use Rattle.text.specs.Puts.{Put};
 ghost use Rattle.listing.specs.Lines.{one_for, password_count, object_line, place_line, estate_lines, listing};
@@ -7,7 +8,7 @@ use state::{Estate, Object, Table};
 use text::put_line;
 
 // The first `count` of the bytes are a text; behind them stand zeros. There is room for the header and 32 lines of five numbers.
-#[derive(Drop)]
+#[derive(Clone, Copy)]
 pub struct Text {
     pub bytes: [u8; 3393],
     pub count: usize,

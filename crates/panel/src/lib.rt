@@ -1,4 +1,5 @@
 // The C functions of include/reshqobi.h: each hands its numbers on as a call on the three slices.
+#![tactic(auto)]
 ghost use Rattle.std.specs.Prelude.{◌≡◌, [], ◌∷◌};
 ghost use Rattle.byte_calls.specs.Called.{slices, told, booted};
 

@@ -1,1 +1,2 @@
 // No code: the laws in specs/ tie the numbers that are read to those that are printed.
+#![tactic(auto)]

@@ -1,4 +1,5 @@
 // The rights of a capability, and the modes that a password can have.
+#![tactic(auto)]
 ghost use Rattle.std.specs.Prelude.{◌≡◌};
 ghost use Rattle.rights.specs.Modes.{legal, grants, denies};
 
@@ -7,7 +8,7 @@ use table::mode_table;
 pub mod table;
 
 // A set of rights, or a mode: rights and perhaps NOT.
-#[derive(Drop)]
+#[derive(Clone, Copy)]
 pub struct Rights {
     pub bits: u8,
 }

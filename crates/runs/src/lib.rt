@@ -1,1 +1,2 @@
 // No code: laws over any list of calls, by any domains.
+#![tactic(auto)]

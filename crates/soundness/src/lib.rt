@@ -1,4 +1,5 @@
 // Whether a state keeps its bounds, with zeros in every unused place.
+#![tactic(auto)]
 mod accounts;
 mod frames;
 mod objects;

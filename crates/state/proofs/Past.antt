@@ -5,5 +5,5 @@ use mathlib.Core.Path.{◌≡◌}
 use native.Mathlib.Omega.{arith}
 use lib.ListN.{length, get_or, length-map, get_or-eq_default}
 
-pub past_get : {A B : Type 0} (f : A → B) (l : List A) {n k : ℕ} → length (map f l) ≡ n → n ≤ k → (d : A) → get_or l k d ≡ d
-past_get f l {n} {k} h b d = let e : length l ≡ n = simp length-map at h in get_or-eq_default l d (omega arith)
+pub past_get : {A : Type 0} (l : List A) {n k : ℕ} → length l ≡ n → n ≤ k → (d : A) → get_or l k d ≡ d
+past_get l {n} {k} h b d = get_or-eq_default l d (omega arith)

@@ -2,6 +2,7 @@
 //
 // A struct by value, with a fixed number of places in each array. A place for an object with 0 pages is free, a place for a
 // password with the word 0 is free, and a registration with the password 0 is none.
+#![tactic(auto)]
 
 pub mod estates;
 pub mod extents;
@@ -9,21 +10,21 @@ pub mod objects;
 pub mod tables;
 
 // A capability as a slot or a registration holds it: the page it names and the password it shows.
-#[derive(Drop)]
+#[derive(Clone, Copy)]
 pub struct Capability {
     pub page: u8,
     pub password: u64,
 }
 
 // An ordinary password of an object with its mode.
-#[derive(Drop)]
+#[derive(Clone, Copy)]
 pub struct Password {
     pub word: u64,
     pub mode: u8,
 }
 
 // A PDX registration: its password, its Clist capability, and the entries, of which the first `count` stand.
-#[derive(Drop)]
+#[derive(Clone, Copy)]
 pub struct Registration {
     pub password: u64,
     pub list: Capability,
@@ -32,7 +33,7 @@ pub struct Registration {
 }
 
 // A run of pages, named by the first of them, on the account that it is charged to.
-#[derive(Drop)]
+#[derive(Clone, Copy)]
 pub struct Object {
     pub base: u8,
     pub pages: u8,
@@ -42,19 +43,19 @@ pub struct Object {
 }
 
 // The objects of one domain's estate.
-#[derive(Drop)]
+#[derive(Clone, Copy)]
 pub struct Estate {
     pub objects: [Object; 8],
 }
 
 // The object table: an estate for each domain.
-#[derive(Drop)]
+#[derive(Clone, Copy)]
 pub struct Table {
     pub estates: [Estate; 4],
 }
 
 // The slots of a protection domain, of which the first `count` stand, with its locks.
-#[derive(Drop)]
+#[derive(Clone, Copy)]
 pub struct Frame {
     pub slots: [Capability; 8],
     pub count: u8,
@@ -63,7 +64,7 @@ pub struct Frame {
 }
 
 // A protection domain: the active frame, and the saved ones, of which the first `depth` stand.
-#[derive(Drop)]
+#[derive(Clone, Copy)]
 pub struct Domain {
     pub active: Frame,
     pub saved: [Frame; 4],
@@ -71,13 +72,13 @@ pub struct Domain {
 }
 
 // The accounts: the limit of each in pages, and for each domain the set that it may charge, bit a for account a.
-#[derive(Drop)]
+#[derive(Clone, Copy)]
 pub struct Accounts {
     pub limits: [u8; 4],
     pub sets: [u8; 4],
 }
 
-#[derive(Drop)]
+#[derive(Clone, Copy)]
 pub struct State {
     pub table: Table,
     pub domains: [Domain; 4],

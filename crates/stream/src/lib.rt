@@ -1,4 +1,5 @@
 // The call program's work on the pieces of its input.
+#![tactic(auto)]
 ghost use Rattle.std.specs.Prelude.{◌≡◌, true, ◌≤◌, min, length, take};
 ghost use mathlib.Core.List.{foldl};
 ghost use Rattle.calls.specs.Step.{unchecked};
@@ -22,7 +23,7 @@ mod held;
 pub const HELD_BYTES: usize = LINE_BYTES + 1;
 
 // Where the program stands between two bytes of its input.
-#[derive(Drop)]
+#[derive(Clone, Copy)]
 pub struct Feed {
     pub state: State,
     // The number of the line that is read.

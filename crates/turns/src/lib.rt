@@ -1,4 +1,5 @@
 // Standard input to its end, its lines answered: what the programs that read call lines share.
+#![tactic(auto)]
 ghost use Rattle.std.specs.Prelude.{◌≡◌, true, false, ◌≤◌, length};
 ghost use Rattle.stream.specs.Feed.{Reached};
 ghost use Rattle.turns.specs.Led.{Begun};
@@ -9,7 +10,7 @@ use transfer::{read_some, write_text};
 pub mod transfer;
 
 // Where a program stands, and whether all the answers that it writes were written.
-#[derive(Drop)]
+#[derive(Clone, Copy)]
 pub struct Turn {
     pub feed: Feed,
     pub written: bool,

@@ -1,0 +1,32 @@
+use Prim.Native.Nat.{◌-◌}
+use mathlib.Core.Path.{◌∙◌, sym}
+use lib.Dec.{leb}
+use borrow.Author.Rules.{rules}
+use borrow.Author.Tests.{le-leb, lt-leb, lt-ltb, le-ltb}
+use Rattle.bounded.specs.Bools.{cond_same}
+use Rattle.bounded.specs.Search.{Searching, start, next, stop, over}
+use Rattle.state.specs.Places.{free_object, object_at}
+use Rattle.state.specs.Lookup.{ends_behind, covering}
+use Rattle.state.proofs.estates.covering.Goals as goal
+
+pub loop-k-init : goal.loop-k-init
+unfolding covering
+loop-k-init c = start
+
+pub returns-then-base-page : goal.returns-then-base-page
+unfolding covering
+returns-then-base-page c = rw (← stop c.loop-k.invariant c.loop-k-test.true (lt-ltb _ _ c.if-page-base.true), le-leb _ _ c.if-base-page.true)
+
+pub returns-then-page-base : goal.returns-then-page-base
+unfolding covering
+returns-then-page-base c = rw (← stop c.loop-k.invariant c.loop-k-test.true (lt-ltb _ _ c.if-page-base.true), lt-leb _ _ c.if-base-page.false)
+    c.free_object.ensures
+
+pub loop-k-preserved : goal.loop-k-preserved
+unfolding covering
+loop-k-preserved c = next c.loop-k.invariant c.loop-k-test.true (le-ltb _ _ c.if-page-base.false)
+
+pub returns : goal.returns
+unfolding covering
+returns c = rw (← over c.loop-k.invariant c.loop-k-test.false)
+    (c.free_object-2.ensures ∙ sym (cond_same (leb 0 c.args.page) free_object))

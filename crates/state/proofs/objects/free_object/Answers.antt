@@ -1,0 +1,5 @@
+use borrow.Author.Rules.{rules}
+use Rattle.state.proofs.objects.free_object.Goals as goal
+
+pub returns : goal.returns
+returns c = cc
