@@ -1,0 +1,10 @@
+use lib.ListN.{length-map}
+use borrow.Author.Tests.{eq-eqb}
+use borrow.Author.Rules.{rules}
+use Rattle.bounded.specs.Every.{below}
+use Rattle.soundness.specs.Sound.{accounts_ok}
+use Rattle.soundness.proofs.accounts.accounts_ok.Goals as goal
+
+pub returns : goal.returns
+unfolding accounts_ok below
+returns c = rw (eq-eqb _ _ c.well_formed.0.1.1.0.1.0.1, eq-eqb _ _ c.well_formed.0.1.1.1.0.1.0.1)

@@ -1,0 +1,8 @@
+use mathlib.Core.Path.{refl}
+use borrow.Author.Rules.{rules}
+use Rattle.soundness.specs.Sound.{follows}
+use Rattle.soundness.proofs.objects.follows.Goals as goal
+
+pub returns : goal.returns
+unfolding follows
+returns c = refl

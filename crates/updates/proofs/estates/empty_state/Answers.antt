@@ -1,0 +1,5 @@
+use borrow.Author.Rules.{rules}
+use Rattle.updates.proofs.estates.empty_state.Goals as goal
+
+pub returns : goal.returns
+returns c = cc
