@@ -1,0 +1,14 @@
+use Prim.Native.Nat.{◌-◌}
+use lib.ListN.{get_or}
+use native.Mathlib.Nat.{one-mul}
+use borrow.Author.Rules.{rules}
+use Rattle.codec.specs.Loop.{Laying, laying_none, laying_more, laying_all}
+use Rattle.codec.specs.Number.{byte}
+use Rattle.layout.specs.Layout.{four_bytes}
+use Rattle.layout.proofs.accounts.put_four_bytes.Given as goal
+
+abbrev pub invariant-loop-i : goal.invariant-loop-i
+invariant-loop-i l = Laying byte (λ j. get_or l.v j 0) 4 l.initial.s l.at l.s l.i
+
+abbrev pub decreases-loop-i : goal.decreases-loop-i
+decreases-loop-i l = 4 - l.i

@@ -1,0 +1,9 @@
+use borrow.Author.Rules.{rules}
+use lib.Seq.{drop-drop}
+use Rattle.codec.specs.Number.{number, byte, truth_ok}
+use Rattle.layout.specs.Layout.{capability, slots, frame}
+use Rattle.layout.proofs.frames.frame_ok.Goals as goal
+
+pub returns : goal.returns
+unfolding number byte capability slots frame
+returns c = simp (drop-drop, truth_ok)

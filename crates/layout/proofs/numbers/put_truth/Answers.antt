@@ -1,0 +1,8 @@
+use borrow.Author.Rules.{rules}
+use Prim.{tt}
+use Rattle.codec.specs.Number.{truth, bit}
+use Rattle.layout.proofs.numbers.put_truth.Goals as goal
+
+pub returns : goal.returns
+unfolding truth
+returns c = (simp bit, tt)

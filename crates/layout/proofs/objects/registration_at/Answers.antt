@@ -1,0 +1,9 @@
+use borrow.Author.Rules.{rules}
+use lib.Seq.{drop-drop}
+use Rattle.codec.specs.Number.{byte_at}
+use Rattle.layout.specs.Layout.{registration}
+use Rattle.layout.proofs.objects.registration_at.Goals as goal
+
+pub returns : goal.returns
+unfolding registration
+returns c = simp (drop-drop, byte_at) (cc)
