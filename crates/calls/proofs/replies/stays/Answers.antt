@@ -1,0 +1,5 @@
+use borrow.Author.Rules.{rules}
+use Rattle.calls.proofs.replies.stays.Goals as goal
+
+pub returns : goal.returns
+returns c = cc
