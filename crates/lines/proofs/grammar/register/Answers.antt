@@ -1,0 +1,5 @@
+use borrow.Author.Rules.{rules}
+use Rattle.lines.proofs.grammar.register.Goals as goal
+
+pub returns : goal.returns
+returns c = rw c.entry_count.ensures

@@ -1,0 +1,35 @@
+use mathlib.Core.Path.{refl}
+use borrow.Author.Tests.{le-ltb, lt-ltb}
+use borrow.Author.Rules.{rules}
+use Rattle.calls.specs.Rules.{rule, in_range, unlocked, late, changes}
+use Rattle.calls.specs.Laws.Parts.{alters_length, alters_range}
+use Rattle.calls.specs.Laws.Based.{based_late, based_done}
+use Rattle.calls.specs.Laws.Told.{holds, fails}
+use mathlib.Core.Path.{ap}
+use mathlib.Core.Bool.{not}
+use Rattle.object_calls.proofs.obj_passwd_drop.Goals as goal
+
+pub returns-then-store-ne-STORE_WORDS : goal.returns-then-store-ne-STORE_WORDS
+unfolding rule in_range unlocked late changes
+returns-then-store-ne-STORE_WORDS c u d below = alters_length _ u d _ _ _ c.if-store-ne-STORE_WORDS.true c.unaltered.ensures
+
+pub returns-then-base-ge128 : goal.returns-then-base-ge128
+unfolding rule in_range unlocked late changes
+returns-then-base-ge128 c u d below = alters_range _ u d _ _ _ (record { long = c.if-store-ne-STORE_WORDS.false; known = below }) (le-ltb _ _ c.if-base-ge128.true) c.unaltered-then-base-ge128.ensures
+
+pub returns-in_default : goal.returns-in_default
+unfolding rule in_range unlocked late changes
+returns-in_default c u d below = based_late _ u d _ _ _ (record { long = c.if-store-ne-STORE_WORDS.false; known = below }) refl (lt-ltb _ _ c.if-base-ge128.false) refl c.judge.ensures c.in_default.is
+    (λ v s. rw s.found) c.unaltered-in_default.ensures
+
+pub returns-then-not-has_password : goal.returns-then-not-has_password
+unfolding rule in_range unlocked late changes
+returns-then-not-has_password c u d below = based_late _ u d _ _ _ (record { long = c.if-store-ne-STORE_WORDS.false; known = below }) refl (lt-ltb _ _ c.if-base-ge128.false) refl c.judge.ensures c.in-Granted.is
+    (λ v s. rw (s.found, ← c.object_based-o.ensures, fails c.has_password.ensures (ap not c.if-not-has_password.true))) c.unaltered-then-not-has_password.ensures
+
+pub returns : goal.returns
+unfolding rule in_range unlocked late changes
+returns c u d below = let n = lt-ltb _ _ c.if-base-ge128.false in
+    based_done _ u d _ _ _ (record { long = c.if-store-ne-STORE_WORDS.false; known = below }) refl n refl c.judge.ensures c.in-Granted.is _ n
+    (λ v s. rw (s.found, ← c.object_based-o.ensures, holds c.has_password.ensures (ap not c.if-not-has_password.false)))
+    (λ v s. rw (s.found, ← c.object_based-o.ensures, ← c.drop_password.ensures)) c.becomes.ensures

@@ -1,0 +1,5 @@
+use borrow.Author.Rules.{rules}
+use Rattle.register_call.proofs.entry_inside.Goals as goal
+
+pub returns : goal.returns
+returns c = rw c.covers.ensures
