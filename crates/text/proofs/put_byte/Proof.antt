@@ -1,9 +1,0 @@
-use Rattle.text.specs.Puts.{put_byte}
-use borrow.Author.Rules.{rules}
-use Rattle.text.proofs.put_byte.Statement.{statement}
-use Rattle.text.proofs.put_byte.Tie as tie
-
-pub put_byte_spec : {M : Type 1} → statement M
-put_byte_spec =
-    tie.close
-    (tie.spec (λ c. search rules) (λ c. search rules) (λ c. search rules) (λ c. put_byte c.requires))

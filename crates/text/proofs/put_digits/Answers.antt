@@ -1,0 +1,25 @@
+use mathlib.Core.Path.{refl, ◌∙◌, ap}
+use mathlib.Core.Logic.{⊎_elim}
+use native.Mathlib.Omega.{arith}
+use lib.ListN.{length, length-set}
+use Rattle.text.specs.Spelled.{Spelling, spelling_none, spelling_two, spelling_one, spelling_all}
+use borrow.Author.Rules.{rules}
+use Rattle.text.proofs.put_digits.Goals as goal
+
+pub loop-i-init : goal.loop-i-init
+loop-i-init c = spelling_none
+
+pub bounds-out-at-in-loop-i : goal.bounds-out-at-in-loop-i
+bounds-out-at-in-loop-i c = rw (length-set c.loop-i.out _ _) (omega arith)
+
+pub loop-i-preserved : goal.loop-i-preserved
+loop-i-preserved c = spelling_two c.loop-i.invariant c.requires c.loop-i-test.true
+
+pub shape_of-out : goal.shape_of-out
+shape_of-out c = ⊎_elim (λ w. ap length w.1 ∙ length-set c.loop-i.out _ _ ∙ c.loop-i.invariant.same_length) (λ w. ap length w.1 ∙ c.loop-i.invariant.same_length) c.if-i-eq1.branch
+
+pub returns : goal.returns
+returns c = (
+      ⊎_elim (λ w. rw w.1 (spelling_all (spelling_one c.loop-i.invariant c.requires w.0.taken) c.requires (omega arith))) (λ w. rw w.1 (spelling_all c.loop-i.invariant c.requires (omega arith))) c.if-i-eq1.branch,
+      refl,
+    )
