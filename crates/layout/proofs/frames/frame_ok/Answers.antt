@@ -1,4 +1,4 @@
-use borrow.Author.Rules.{rules}
+use native.Mathlib.Nat.{add_assoc}
 use lib.Seq.{drop-drop}
 use Rattle.codec.specs.Number.{number, byte, truth_ok}
 use Rattle.layout.specs.Layout.{capability, slots, frame}
@@ -6,4 +6,4 @@ use Rattle.layout.proofs.frames.frame_ok.Goals as goal
 
 pub returns : goal.returns
 unfolding number byte capability slots frame
-returns c = simp (drop-drop, truth_ok)
+returns c = simp (drop-drop, truth_ok, add_assoc)
