@@ -1,6 +1,7 @@
+use Rattle.codec.proofs.Truth.{truth_at}
 use native.Mathlib.Nat.{add_assoc}
 use lib.Seq.{drop-drop}
-use Rattle.codec.specs.Number.{byte_at, truth_at}
+use Rattle.codec.specs.Number.{byte_at}
 use Rattle.layout.specs.Layout.{frame}
 use Rattle.layout.proofs.frames.frame_at.Goals as goal
 
