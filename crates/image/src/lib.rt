@@ -1,5 +1,6 @@
 // The state as a byte image of one fixed length, and back.
 #![tactic(auto)]
+
 ghost use Rattle.std.specs.Prelude.{◌≡◌, length};
 ghost use Rattle.soundness.specs.Sound.{sound};
 ghost use Rattle.layout.specs.Sizes.{state_size};

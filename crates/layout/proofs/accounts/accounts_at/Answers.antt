@@ -1,4 +1,3 @@
-use borrow.Author.Rules.{rules}
 use lib.Seq.{drop-drop}
 use Rattle.layout.specs.Layout.{accounts}
 use Rattle.layout.proofs.accounts.accounts_at.Goals as goal

@@ -1,4 +1,3 @@
-use borrow.Author.Rules.{rules}
 use Rattle.codec.specs.Laid.{laid}
 use Rattle.layout.specs.Layout.{accounts, four_bytes}
 use Rattle.layout.proofs.accounts.put_accounts.Goals as goal

@@ -1,8 +1,6 @@
-use Prim.Native.Nat.{◌-◌}
-use lib.ListN.{get_or}
 use native.Mathlib.Nat.{one-mul}
 use borrow.Author.Rules.{rules}
-use Rattle.codec.specs.Loop.{Laying, laying_none, laying_more, laying_all}
+use Rattle.codec.specs.Loop.{laying_none, laying_more, laying_all}
 use Rattle.codec.specs.Number.{byte}
 use Rattle.layout.specs.Layout.{four_bytes}
 use Rattle.layout.proofs.accounts.put_four_bytes.Goals as goal

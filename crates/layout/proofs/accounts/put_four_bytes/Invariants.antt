@@ -1,10 +1,7 @@
 use Prim.Native.Nat.{◌-◌}
 use lib.ListN.{get_or}
-use native.Mathlib.Nat.{one-mul}
-use borrow.Author.Rules.{rules}
-use Rattle.codec.specs.Loop.{Laying, laying_none, laying_more, laying_all}
+use Rattle.codec.specs.Loop.{Laying}
 use Rattle.codec.specs.Number.{byte}
-use Rattle.layout.specs.Layout.{four_bytes}
 use Rattle.layout.proofs.accounts.put_four_bytes.Given as goal
 
 abbrev pub invariant-loop-i : goal.invariant-loop-i

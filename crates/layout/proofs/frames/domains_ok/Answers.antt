@@ -1,4 +1,3 @@
-use borrow.Author.Rules.{rules}
 use lib.Seq.{drop-drop}
 use Rattle.layout.specs.Layout.{domains}
 use Rattle.layout.proofs.frames.domains_ok.Goals as goal

@@ -1,4 +1,3 @@
-use borrow.Author.Rules.{rules}
 use Rattle.codec.specs.Laid.{laid}
 use Rattle.layout.specs.Layout.{domain, frame, saved}
 use native.Mathlib.Nat.{add_assoc}

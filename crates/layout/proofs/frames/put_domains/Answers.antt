@@ -1,7 +1,5 @@
-use Prim.Native.Nat.{◌-◌}
-use lib.ListN.{get_or}
 use borrow.Author.Rules.{rules}
-use Rattle.codec.specs.Loop.{Laying, laying_none, laying_more, laying_all}
+use Rattle.codec.specs.Loop.{laying_none, laying_more, laying_all}
 use Rattle.state.specs.Places.{no_domain}
 use Rattle.layout.specs.Layout.{domain, domains}
 use Rattle.layout.proofs.frames.put_domains.Goals as goal

@@ -1,4 +1,3 @@
-use borrow.Author.Rules.{rules}
 use Rattle.codec.specs.Laid.{laid}
 use Rattle.layout.specs.Layout.{frame, slots}
 use Rattle.codec.specs.Number.{byte}

@@ -1,4 +1,3 @@
-use borrow.Author.Rules.{rules}
 use lib.Seq.{drop-drop}
 use Rattle.layout.specs.Layout.{saved}
 use Rattle.layout.proofs.frames.saved_at.Goals as goal

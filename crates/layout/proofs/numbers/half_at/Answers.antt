@@ -1,4 +1,3 @@
-use borrow.Author.Rules.{rules}
 use Rattle.codec.specs.Number.{half_sum}
 use Rattle.layout.proofs.numbers.half_at.Goals as goal
 

@@ -1,4 +1,3 @@
-use borrow.Author.Rules.{rules}
 use Prim.{tt}
 use Rattle.codec.specs.Number.{truth, bit}
 use Rattle.layout.proofs.numbers.put_truth.Goals as goal

@@ -1,4 +1,3 @@
-use borrow.Author.Rules.{rules}
 use Rattle.codec.specs.Number.{word_sum}
 use Rattle.layout.proofs.numbers.word_at.Goals as goal
 

@@ -1,4 +1,3 @@
-use borrow.Author.Rules.{rules}
 use lib.Seq.{drop-drop}
 use Rattle.codec.specs.Number.{byte_at}
 use Rattle.layout.specs.Layout.{password}

@@ -1,4 +1,3 @@
-use borrow.Author.Rules.{rules}
 use lib.Seq.{drop-drop}
 use Rattle.layout.specs.Layout.{passwords}
 use Rattle.layout.proofs.objects.passwords_at.Goals as goal

@@ -1,9 +1,7 @@
 use Prim.Native.Nat.{◌-◌}
 use lib.ListN.{get_or}
-use borrow.Author.Rules.{rules}
-use Rattle.codec.specs.Loop.{Laying, laying_none, laying_more, laying_all}
+use Rattle.codec.specs.Loop.{Laying}
 use Rattle.codec.specs.Number.{number}
-use Rattle.layout.specs.Layout.{entries}
 use Rattle.layout.proofs.objects.put_entries.Given as goal
 
 abbrev pub invariant-loop-i : goal.invariant-loop-i

@@ -1,4 +1,3 @@
-use borrow.Author.Rules.{rules}
 use Rattle.layout.specs.Layout.{estate}
 use Rattle.layout.proofs.objects.put_estate.Goals as goal
 

@@ -1,9 +1,8 @@
 use Prim.Native.Nat.{◌-◌}
 use lib.ListN.{get_or}
-use borrow.Author.Rules.{rules}
-use Rattle.codec.specs.Loop.{Laying, laying_none, laying_more, laying_all}
+use Rattle.codec.specs.Loop.{Laying}
 use Rattle.state.specs.Places.{no_estate}
-use Rattle.layout.specs.Layout.{estate, estates}
+use Rattle.layout.specs.Layout.{estate}
 use Rattle.layout.proofs.objects.put_estates.Given as goal
 
 abbrev pub invariant-loop-i : goal.invariant-loop-i

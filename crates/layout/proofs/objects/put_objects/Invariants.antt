@@ -1,9 +1,8 @@
 use Prim.Native.Nat.{◌-◌}
 use lib.ListN.{get_or}
-use borrow.Author.Rules.{rules}
-use Rattle.codec.specs.Loop.{Laying, laying_none, laying_more, laying_all}
+use Rattle.codec.specs.Loop.{Laying}
 use Rattle.state.specs.Places.{no_object}
-use Rattle.layout.specs.Layout.{object, objects}
+use Rattle.layout.specs.Layout.{object}
 use Rattle.layout.proofs.objects.put_objects.Given as goal
 
 abbrev pub invariant-loop-i : goal.invariant-loop-i

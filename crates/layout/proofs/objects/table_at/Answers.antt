@@ -1,4 +1,3 @@
-use borrow.Author.Rules.{rules}
 use Rattle.layout.specs.Layout.{table}
 use Rattle.layout.proofs.objects.table_at.Goals as goal
 

@@ -1,4 +1,3 @@
-use borrow.Author.Rules.{rules}
 use borrow.Author.Tests.{eq-eqb, ne_eqb}
 use lib.Seq.{drop-drop}
 use Rattle.layout.specs.Layout.{state}

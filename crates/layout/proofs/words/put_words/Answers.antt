@@ -1,7 +1,6 @@
 use borrow.Author.Rules.{rules}
-use Prim.Native.Nat.{◌-◌}
 use native.Mathlib.Omega.{arith}
-use Rattle.layout.specs.Laws.Words.{Putting, putting_none, putting_more, putting_all, bytes_end, words_end}
+use Rattle.layout.specs.Laws.Words.{putting_none, putting_more, putting_all, bytes_end, words_end}
 use Rattle.layout.proofs.words.put_words.Goals as goal
 
 pub returns-then-bytes-to : goal.returns-then-bytes-to

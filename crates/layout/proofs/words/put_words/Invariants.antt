@@ -1,7 +1,5 @@
-use borrow.Author.Rules.{rules}
 use Prim.Native.Nat.{◌-◌}
-use native.Mathlib.Omega.{arith}
-use Rattle.layout.specs.Laws.Words.{Putting, putting_none, putting_more, putting_all, bytes_end, words_end}
+use Rattle.layout.specs.Laws.Words.{Putting}
 use Rattle.layout.proofs.words.put_words.Given as goal
 
 abbrev pub invariant-loop-i : goal.invariant-loop-i

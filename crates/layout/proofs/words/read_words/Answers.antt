@@ -1,7 +1,6 @@
 use borrow.Author.Rules.{rules}
-use Prim.Native.Nat.{◌-◌}
 use native.Mathlib.Omega.{arith}
-use Rattle.layout.specs.Laws.Words.{Loading, loading_none, loading_more, loading_all, too_few}
+use Rattle.layout.specs.Laws.Words.{loading_none, loading_more, loading_all, too_few}
 use Rattle.layout.proofs.words.read_words.Goals as goal
 
 pub returns-then-bytes-n : goal.returns-then-bytes-n

@@ -1,7 +1,5 @@
-use borrow.Author.Rules.{rules}
 use Prim.Native.Nat.{◌-◌}
-use native.Mathlib.Omega.{arith}
-use Rattle.layout.specs.Laws.Words.{Loading, loading_none, loading_more, loading_all, too_few}
+use Rattle.layout.specs.Laws.Words.{Loading}
 use Rattle.layout.proofs.words.read_words.Given as goal
 
 abbrev pub invariant-loop-i : goal.invariant-loop-i
