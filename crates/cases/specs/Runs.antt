@@ -66,12 +66,12 @@ unfolding answers answers_by
 answers_are w h [] = refl
 answers_are w h (e ∷ es) =
     rw (sound_unchecked w e.domain e.call h)
-    (ap (λ t. answer_of (unchecked w e.domain e.call) ∷ t) (answers_are _ (unchecked_sound w e.domain e.call h) es))
+    (ap (λ t. answer_of (unchecked w e.domain e.call) ∷ t) (answers_are (world_of (unchecked w e.domain e.call)) (unchecked_sound w e.domain e.call h) es))
 
 pub after_is : (w : World) → sound w.state ≡ true → (es : List Exchange) → after w es ≡ after_by judged w es
 unfolding after after_by
 after_is w h [] = refl
-after_is w h (e ∷ es) = rw (sound_unchecked w e.domain e.call h) (after_is _ (unchecked_sound w e.domain e.call h) es)
+after_is w h (e ∷ es) = rw (sound_unchecked w e.domain e.call h) (after_is (world_of (unchecked w e.domain e.call)) (unchecked_sound w e.domain e.call h) es)
 
 -- functions that agree make the same list
 pub map_same : {A B : Type 0} (f g : A → B) → ((x : A) → f x ≡ g x) → (xs : List A) → map f xs ≡ map g xs

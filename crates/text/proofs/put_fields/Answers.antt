@@ -17,7 +17,7 @@ loop-i-init c = (put_none _ _, omega arith, omega arith, omega arith)
 pub loop-i-preserved : goal.loop-i-preserved
 unfolding fields_text
 loop-i-preserved c = let q = then c.loop-i.invariant.0 c.put_field-m.ensures.0 in
-    (rw (← fold_more with_field [] c.args.values.now c.loop-i.i c.loop-i-test.true) q, omega arith, omega (arith, c.put_field-m.auto.0), omega arith)
+    (rw (← fold_more with_field [] c.args.values.now c.loop-i.i c.loop-i-test.true) q, omega arith, omega (arith, c.put_field-m.auto.out), omega arith)
 
 pub shape_of-out : goal.shape_of-out
 unfolding fields_text
