@@ -143,7 +143,7 @@ pub trace_last : (G : Group) (w : World) → sound w.state ≡ true → (es : Li
 unfolding trace_by final
 trace_last G w h [] = refl
 trace_last G w h (e ∷ es) =
-    rw (sound_unchecked w e.domain e.call h) (trace_last G _ (unchecked_sound w e.domain e.call h) es)
+    rw (sound_unchecked w e.domain e.call h) (trace_last G (world_of (unchecked w e.domain e.call)) (unchecked_sound w e.domain e.call h) es)
 
 homes_hold : (G : Group) (r r' : Run) → homes_test G r r' ≡ true → (d : ℕ) → member G d ≡ true → home_of r.plan d ≡ home_of r'.plan d
 unfolding homes_test
