@@ -15,7 +15,7 @@ loop-k-init c = (put_none _ _, omega arith, omega arith, omega arith)
 
 pub loop-k-preserved : goal.loop-k-preserved
 unfolding estate_lines texts
-loop-k-preserved c = (rw (← texts_more c.loop-k.k (λ i. place_line (object_at c.args.e i))) (then c.loop-k.invariant.0 c.put_place-m.ensures.0), omega arith, omega (arith, c.put_place-m.auto.0), omega arith)
+loop-k-preserved c = (rw (← texts_more c.loop-k.k (λ i. place_line (object_at c.args.e i))) (then c.loop-k.invariant.0 c.put_place-m.ensures.0), omega arith, omega (arith, c.put_place-m.auto.out), omega arith)
 
 pub shape_of-out : goal.shape_of-out
 unfolding estate_lines texts

@@ -5,9 +5,9 @@ use Rattle.replies.specs.Kinds.{boot_told}
 use Rattle.replies.proofs.boots.boot_line.Goals as goal
 
 pub returns-in-Done : goal.returns-in-Done
-returns-in-Done c = let long : length c.boot-o.result.fields.values ≡ 11 = simp length-map at c.boot-o.type-inv.1.1.1.0.1.1.1.0.1.0.1 in
+returns-in-Done c = let long : length c.boot-o.result.fields.values ≡ 11 = c.boot-o.type_inv.1.1.1.0.1.1.1.0.1.0.1 in
     boot_told c.args.s c.args.store.now c.args.d c.args.plan c.boot-o.result _ _ _ _ _ c.boot-o.ensures (rw c.in-Done.is) long c.put_answer-end.ensures.0 c.put_answer-end.ensures.1
 
 pub returns-in-Refused : goal.returns-in-Refused
-returns-in-Refused c = let long : length c.boot-o.result.fields.values ≡ 11 = simp length-map at c.boot-o.type-inv.1.1.1.0.1.1.1.0.1.0.1 in
+returns-in-Refused c = let long : length c.boot-o.result.fields.values ≡ 11 = c.boot-o.type_inv.1.1.1.0.1.1.1.0.1.0.1 in
     boot_told c.args.s c.args.store.now c.args.d c.args.plan c.boot-o.result _ _ _ _ _ c.boot-o.ensures (rw c.in-Refused.is) long c.put_answer-end.ensures.0 c.put_answer-end.ensures.1
