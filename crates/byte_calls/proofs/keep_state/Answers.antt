@@ -5,7 +5,7 @@ use mathlib.Core.Bool.{not}
 use Rattle.byte_calls.proofs.keep_state.Goals as goal
 
 pub returns-then-not-changed : goal.returns-then-not-changed
-returns-then-not-changed c = rw (not-true c.args.changed (ap not c.if-not-changed.true))
+returns-then-not-changed c = rw c.if-not-changed.true
 
 pub returns : goal.returns
-returns c = rw (not-false c.args.changed (ap not c.if-not-changed.false)) c.write_image.ensures.0
+returns c = rw c.if-not-changed.false c.write_image.ensures.image_after
