@@ -1,6 +1,0 @@
-use borrow.Author.Rules.{rules}
-use Rattle.stream.proofs.start.Statement.{statement}
-use Rattle.stream.proofs.start.Tie as tie
-
-pub start_spec : {M : Type 1} → statement M
-start_spec = tie.close (tie.spec (λ c κs. search rules) (λ c. rw c.empty-state.ensures))
