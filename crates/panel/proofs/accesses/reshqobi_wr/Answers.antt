@@ -1,0 +1,5 @@
+use borrow.Author.Rules.{rules}
+use Rattle.panel.proofs.accesses.reshqobi_wr.Goals as goal
+
+pub returns : goal.returns
+returns c = c.call.ensures
