@@ -1,5 +1,6 @@
 // The calls of the monitor.
 #![tactic(auto)]
+
 ghost use Rattle.std.specs.Prelude.{◌≡◌};
 ghost use Rattle.calls.specs.Step.{world, admitted};
 ghost use Rattle.calls.specs.Parts.{caller_of};

@@ -1,5 +1,6 @@
 // Clists: the part of the store that is one, and whether a capability opens it.
 #![tactic(auto)]
+
 ghost use Rattle.std.specs.Prelude.{◌≡◌, cond};
 ghost use Rattle.rights.specs.Modes.{read, grants};
 ghost use Rattle.state.specs.Places.{estate_at};

@@ -1,5 +1,6 @@
 // CR: a new object, on its own since it has more to test than the other calls on objects.
 #![tactic(auto)]
+
 ghost use Rattle.std.specs.Prelude.{◌&&◌, ◌≡◌, ◌+◌, ◌<◌, ◌≤◌, leb};
 ghost use Rattle.state.specs.Places.{object_at};
 ghost use Rattle.state.specs.Extent.{lies_in, apart};

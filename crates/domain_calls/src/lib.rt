@@ -1,5 +1,6 @@
 // The calls on the slots and locks of the caller's protection domain: IN, RM, GT and LO. Each hands back its answer beside that domain.
 #![tactic(auto)]
+
 ghost use Rattle.std.specs.Prelude.{◌≡◌, cond, not, ◌&&◌, List, ℕ, ◌<◌, leb, ltb, length};
 ghost use Rattle.state.specs.Places.{slot_at};
 ghost use Rattle.state.specs.Update.{with_active};

@@ -1,5 +1,6 @@
 // How an access is judged.
 #![tactic(auto)]
+
 ghost use Rattle.std.specs.Prelude.{◌≡◌, cond, ◌||◌, [], ◌*◌, ◌<◌, eqb};
 ghost use Rattle.state.specs.Extent.{free};
 ghost use Rattle.clists.specs.Clist.{named, live, clist};

@@ -1,5 +1,6 @@
 // Reading a line of the call program.
 #![tactic(auto)]
+
 ghost use Rattle.std.specs.Prelude.{◌≡◌, length};
 ghost use Rattle.calls.specs.Boot.{boot_numbers};
 ghost use Rattle.lines.specs.declared.Letters.TheVariants.{Known};

@@ -1,5 +1,6 @@
 // Pages on account: the figure of an account, and the sets of accounts.
 #![tactic(auto)]
+
 ghost use Rattle.std.specs.Prelude.{◌≡◌};
 ghost use Rattle.state.specs.Pages.{pages_on, estate_pages, pages_of, in_set};
 

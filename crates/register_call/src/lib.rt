@@ -1,5 +1,6 @@
 // RG: an object becomes a PDX procedure.
 #![tactic(auto)]
+
 ghost use Rattle.std.specs.Prelude.{◌≡◌, ℕ, ◌/◌, ◌<◌, ◌≤◌, true, cond, ◌||◌, leb, ltb};
 ghost use Rattle.state.specs.Extent.{covers};
 ghost use Rattle.state.specs.declared.Accounts.{Accounts as Limits};

@@ -1,5 +1,6 @@
 // The rights of a capability, and the modes that a password can have.
 #![tactic(auto)]
+
 ghost use Rattle.std.specs.Prelude.{◌≡◌};
 ghost use Rattle.rights.specs.Modes.{legal, grants, denies};
 

@@ -1,5 +1,6 @@
 // Whether a state keeps its bounds, with zeros in every unused place.
 #![tactic(auto)]
+
 mod accounts;
 mod frames;
 mod objects;

@@ -1,4 +1,3 @@
-use borrow.Author.Rules.{rules}
 use Rattle.calls.specs.Step.{admitted}
 use Rattle.calls.proofs.admits.Goals as goal
 

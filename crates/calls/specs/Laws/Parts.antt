@@ -15,7 +15,6 @@ use Rattle.judge.specs.declared.Target.{Target}
 use Rattle.judge.specs.declared.Judgement.{Judgement}
 use Rattle.judge.specs.declared.Judgement.TheVariants.{Granted}
 use Rattle.calls.specs.View.{Want, nothing, rights, View, first_failing, found_by, search, passes, permitted, within_limit}
-use Rattle.calls.specs.Changes.{estate, domain}
 use Rattle.calls.specs.Rules.{rule, in_range, unlocked, wanted, presented, charged, value, fields, late, changes, view}
 use Rattle.calls.specs.Step.{world, result_of, refused_with, done, unchecked}
 use Rattle.calls.specs.Parts.{caller_of, Entered, unaltered, stays, with_altered, with_moved, Answers, Alters, Moves}

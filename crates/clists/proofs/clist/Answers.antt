@@ -3,7 +3,6 @@ use mathlib.Core.Path.{◌≡◌}
 use mathlib.Core.List.{List}
 use native.Mathlib.Omega.{arith}
 use lib.ListN.{length, take}
-use borrow.Author.Rules.{rules}
 use Rattle.clists.specs.Clist.{list_end, until_end}
 use Rattle.clists.specs.Laws.Ends.{end_at}
 use Rattle.clists.specs.Laws.Lists.{run_short}

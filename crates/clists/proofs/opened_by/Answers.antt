@@ -1,5 +1,4 @@
 use mathlib.Core.Path.{sym, ◌∙◌}
-use borrow.Author.Rules.{rules}
 use Rattle.clists.proofs.opened_by.Goals as goal
 
 pub returns-then-opens : goal.returns-then-opens

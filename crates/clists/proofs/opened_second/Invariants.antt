@@ -1,6 +1,5 @@
 use Prim.Native.Nat.{◌-◌}
-use borrow.Author.Rules.{rules}
-use Rattle.clists.specs.Opening.{Opening, opening_start, opening_next, opening_stop, opening_over}
+use Rattle.clists.specs.Opening.{Opening}
 use Rattle.clists.proofs.opened_second.Given as goal
 
 abbrev pub invariant-loop-k : goal.invariant-loop-k

@@ -1,6 +1,4 @@
-use Prim.Native.Nat.{◌-◌}
-use borrow.Author.Rules.{rules}
-use Rattle.clists.specs.Opening.{Opening, opening_start, opening_next, opening_stop, opening_over}
+use Rattle.clists.specs.Opening.{opening_start, opening_next, opening_stop, opening_over}
 use Rattle.clists.proofs.opened_third.Goals as goal
 
 pub loop-k-init : goal.loop-k-init

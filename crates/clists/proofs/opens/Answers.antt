@@ -1,4 +1,3 @@
-use borrow.Author.Rules.{rules}
 use Rattle.clists.proofs.opens.Goals as goal
 
 pub returns : goal.returns

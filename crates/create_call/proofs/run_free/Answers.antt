@@ -1,4 +1,3 @@
-use borrow.Author.Rules.{rules}
 use Rattle.bounded.specs.Every.{below}
 use Rattle.calls.specs.Arguments.{run_free}
 use Rattle.create_call.proofs.run_free.Goals as goal

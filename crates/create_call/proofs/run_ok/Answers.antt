@@ -1,4 +1,3 @@
-use borrow.Author.Rules.{rules}
 use Rattle.create_call.proofs.run_ok.Goals as goal
 
 pub returns : goal.returns

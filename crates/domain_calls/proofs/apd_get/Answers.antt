@@ -1,5 +1,4 @@
 use mathlib.Core.Path.{refl}
-use borrow.Author.Rules.{rules}
 use Rattle.calls.specs.Rules.{rule, in_range, unlocked, late, changes}
 use Rattle.calls.specs.Laws.Parts.{moves_told}
 use Rattle.domain_calls.proofs.apd_get.Goals as goal

@@ -2,7 +2,6 @@ use mathlib.Core.Bool.{true, ◌&&◌}
 use mathlib.Core.Path.{◌≡◌}
 use lib.Dec.{ltb}
 use borrow.Author.Tests.{lt-ltb, le-ltb, lt-leb, le-leb}
-use borrow.Author.Rules.{rules}
 use Rattle.calls.specs.Rules.{rule, in_range, unlocked, late, changes}
 use Rattle.calls.specs.Laws.Parts.{moves_range, moves_lock, moves_late, moves_done}
 use Rattle.calls.specs.Laws.Told.{holds, fails}

@@ -1,6 +1,5 @@
 use mathlib.Core.Path.{refl}
 use borrow.Author.Tests.{lt-ltb, le-ltb, ne_eqb}
-use borrow.Author.Rules.{rules}
 use Rattle.calls.specs.Rules.{rule, in_range, unlocked, late, changes}
 use Rattle.calls.specs.Laws.Parts.{moves_range, moves_late, moves_done}
 use Rattle.domain_calls.proofs.apd_lock.Goals as goal

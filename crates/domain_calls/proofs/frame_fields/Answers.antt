@@ -1,4 +1,3 @@
-use borrow.Author.Rules.{rules}
 use Rattle.calls.specs.Changes.{frame_fields}
 use Rattle.domain_calls.proofs.frame_fields.Goals as goal
 

@@ -1,5 +1,4 @@
 use borrow.Author.Tests.{lt-ltb, le-ltb}
-use borrow.Author.Rules.{rules}
 use Rattle.domain_calls.proofs.page_at.Goals as goal
 
 pub returns-then-f-k : goal.returns-then-f-k

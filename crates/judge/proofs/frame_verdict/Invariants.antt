@@ -4,16 +4,15 @@ use mathlib.Core.Bool.{Bool, true, false, cond}
 use mathlib.Core.List.{List, []}
 use native.Mathlib.Omega.{arith}
 use borrow.Author.Tests.{lt-ltb}
-use borrow.Author.Rules.{rules}
 use Rattle.bounded.specs.Search.{first}
 use Rattle.state.specs.Places.{slot_at}
 use Rattle.state.specs.declared.Object.{Object}
 use Rattle.state.specs.declared.Table.{Table}
 use Rattle.state.specs.declared.Frame.{Frame}
 use Rattle.clists.specs.Clist.{named, live, clist, list_at}
-use Rattle.judge.specs.Search.{granting, denying, list_first, slot_first, frame_first, frame_verdict}
+use Rattle.judge.specs.Search.{granting, denying, list_first, slot_first}
 use Rattle.clists.specs.Laws.Lists.{list_unused}
-use Rattle.judge.specs.Walk.{list_verdict, Walking, walk_start, walk_next, walk_stop, walk_over, walk_skip, grant_undenied}
+use Rattle.judge.specs.Walk.{list_verdict, Walking, walk_skip, grant_undenied}
 use Rattle.judge.specs.declared.Verdict.{Verdict}
 use Rattle.judge.specs.declared.Verdict.TheVariants.{Denied}
 use Rattle.judge.proofs.frame_verdict.Given as goal

@@ -1,4 +1,3 @@
-use borrow.Author.Rules.{rules}
 use Rattle.judge.specs.Search.{searched}
 use Rattle.judge.specs.Judged.Inside.{judged_is}
 use Rattle.judge.proofs.judge.Goals as goal

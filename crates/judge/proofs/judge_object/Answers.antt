@@ -4,7 +4,6 @@ use mathlib.Core.Bool.{Bool, true, false, ◌||◌, true≢false}
 use native.Mathlib.Omega.{arith}
 use lib.Dec.{eqb}
 use borrow.Author.Tests.{eqb-false}
-use borrow.Author.Rules.{rules}
 use Rattle.state.specs.Extent.{free}
 use Rattle.judge.proofs.judge_object.Goals as goal
 

@@ -1,4 +1,3 @@
-use borrow.Author.Rules.{rules}
 use Rattle.judge.proofs.judgement_of.Goals as goal
 
 pub returns-in-Granted : goal.returns-in-Granted

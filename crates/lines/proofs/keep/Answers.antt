@@ -1,6 +1,5 @@
 use native.Mathlib.Omega.{arith}
 use borrow.Author.Tests.{lt-ltb, le-ltb}
-use borrow.Author.Rules.{rules}
 use Rattle.lines.proofs.keep.Goals as goal
 
 pub returns-then-n-lt8 : goal.returns-then-n-lt8

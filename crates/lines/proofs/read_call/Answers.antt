@@ -1,6 +1,5 @@
 use mathlib.Core.Path.{sym, ◌∙◌}
 use Rattle.lines.specs.Commas.{given_bad, given_numbers}
-use borrow.Author.Rules.{rules}
 use Rattle.lines.proofs.read_call.Goals as goal
 
 pub returns-in-Answered : goal.returns-in-Answered

@@ -6,7 +6,6 @@ use Rattle.lines.specs.declared.Line.TheVariants.{Answered}
 use Rattle.lines.specs.Reading.{plan_kept}
 use Rattle.lines.specs.Commas.{too_long, no_domain, no_letters, unknown_letters, by_letters}
 use Rattle.lines.proofs.Told.{no_number}
-use borrow.Author.Rules.{rules}
 use Rattle.lines.proofs.read_line.Goals as goal
 
 pub returns-then-s-gt-LINE_BYTES : goal.returns-then-s-gt-LINE_BYTES

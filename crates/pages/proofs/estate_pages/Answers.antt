@@ -1,5 +1,4 @@
 use native.Mathlib.Nat.{zero-add}
-use borrow.Author.Rules.{rules}
 use Rattle.bounded.specs.Sum.{total}
 use Rattle.state.specs.Pages.{estate_pages}
 use Rattle.pages.proofs.estate_pages.Goals as goal

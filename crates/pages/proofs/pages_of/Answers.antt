@@ -1,5 +1,4 @@
 use native.Mathlib.Nat.{zero-add}
-use borrow.Author.Rules.{rules}
 use Rattle.bounded.specs.Sum.{total}
 use Rattle.state.specs.Pages.{pages_of}
 use Rattle.pages.proofs.pages_of.Goals as goal

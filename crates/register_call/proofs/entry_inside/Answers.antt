@@ -1,4 +1,3 @@
-use borrow.Author.Rules.{rules}
 use Rattle.register_call.proofs.entry_inside.Goals as goal
 
 pub returns : goal.returns

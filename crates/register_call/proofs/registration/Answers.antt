@@ -1,5 +1,4 @@
 use native.Mathlib.Omega.{arith}
-use borrow.Author.Rules.{rules}
 use Rattle.bounded.specs.Every.{below_at}
 use Rattle.calls.specs.Changes.{registration}
 use Rattle.register_call.proofs.registration.Goals as goal

@@ -1,6 +1,4 @@
-use lib.ListN.{length-map}
 use borrow.Author.Tests.{eq-eqb}
-use borrow.Author.Rules.{rules}
 use Rattle.bounded.specs.Every.{below}
 use Rattle.soundness.specs.Sound.{sound_at, sound}
 use Rattle.soundness.proofs.sound_by.Goals as goal

@@ -1,5 +1,5 @@
 -- The passwords of an object that keeps its bounds.
-use Rattle.std.specs.Prelude.{ℕ, suc, ◌<◌, ◌≤◌, ◌≡◌, true, not, ◌⊎◌, get_or}
+use Rattle.std.specs.Prelude.{ℕ, suc, ◌<◌, ◌≤◌, ◌≡◌, true, ◌⊎◌, get_or}
 use Rattle.std.proofs.Common.{sym, ◌∙◌, inl, inr, arith, eq-eqb}
 use Rattle.bounded.specs.Bools.{same_or_not}
 use Rattle.bounded.specs.Fill.{tabulate_at}

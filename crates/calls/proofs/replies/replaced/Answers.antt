@@ -1,4 +1,3 @@
-use borrow.Author.Rules.{rules}
 use Rattle.calls.proofs.replies.replaced.Goals as goal
 
 pub returns-then-stands : goal.returns-then-stands

@@ -1,5 +1,4 @@
 use borrow.Author.Tests.{lt-ltb, le-ltb}
-use borrow.Author.Rules.{rules}
 use Rattle.calls.proofs.replies.replaces.Goals as goal
 
 pub returns-then-base-ge128 : goal.returns-then-base-ge128

@@ -1,6 +1,4 @@
-use Prim.Native.Nat.{◌-◌}
-use borrow.Author.Rules.{rules}
-use Rattle.calls.specs.Laws.Zeroed.{Zeroing, zeroing_none, zeroing_more, zeroing_all}
+use Rattle.calls.specs.Laws.Zeroed.{zeroing_none, zeroing_more, zeroing_all}
 use Rattle.calls.proofs.words.zero_run.Goals as goal
 
 pub loop-i-init : goal.loop-i-init

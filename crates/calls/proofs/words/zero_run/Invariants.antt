@@ -1,6 +1,5 @@
 use Prim.Native.Nat.{◌-◌}
-use borrow.Author.Rules.{rules}
-use Rattle.calls.specs.Laws.Zeroed.{Zeroing, zeroing_none, zeroing_more, zeroing_all}
+use Rattle.calls.specs.Laws.Zeroed.{Zeroing}
 use Rattle.calls.proofs.words.zero_run.Given as goal
 
 abbrev pub invariant-loop-i : goal.invariant-loop-i

@@ -2,7 +2,6 @@ use Prim.Native.Nat.{◌+◌, ◌<◌, ◌≤◌}
 use lib.ListN.{length}
 use native.Mathlib.Omega.{arith}
 use borrow.Author.Tests.{lt-leb, le-leb}
-use borrow.Author.Rules.{rules}
 use Rattle.calls.proofs.words.zero_words.Goals as goal
 
 pub returns-then-length-start : goal.returns-then-length-start

@@ -5,7 +5,6 @@ use mathlib.Core.List.{List}
 use lib.Dec.{eqb}
 use lib.ListN.{get_or}
 use borrow.Author.Tests.{ne_eqb, eq-eqb}
-use borrow.Author.Rules.{rules}
 use Rattle.clists.specs.Clist.{zero_pair}
 use Rattle.clists.proofs.ends.zero_pair.Goals as goal
 

@@ -1,9 +1,6 @@
-use Prim.Native.Nat.{ℕ, ◌-◌, ◌≤◌, ◌<◌}
-use mathlib.Core.Path.{◌≡◌}
-use mathlib.Core.Bool.{true}
+use Prim.Native.Nat.{ℕ, ◌≤◌, ◌<◌}
 use mathlib.Core.List.{List}
 use native.Mathlib.Omega.{arith}
-use borrow.Author.Rules.{rules}
 use Rattle.bounded.specs.Search.{Skipped}
 use Rattle.state.specs.declared.Object.{Object}
 use Rattle.judge.specs.Search.{pair_verdict, list_first}
@@ -41,10 +38,10 @@ loop-i-smaller c = omega arith
 pub loop-i-preserved : goal.loop-i-preserved
 unfolding list_verdict list_first
 loop-i-preserved c = let w = walk_next c.loop-i.invariant.0 c.loop-i-test.true (cc) (cc) in (
-      rw (c.or_else-found.ensures, c.pair_verdict-v.ensures)
-          (others c.args.list.now c.args.start c.args.o c.args.wanted.bits _ _ _ c.requires.1 w c.next_pair-i-in-loop-i.ensures.0 c.next_pair-i-in-loop-i.ensures.1),
-      c.next_pair-i-in-loop-i.ensures.2,
-    )
+  rw (c.or_else-found.ensures, c.pair_verdict-v.ensures)
+      (others c.args.list.now c.args.start c.args.o c.args.wanted.bits _ _ _ c.requires.1 w c.next_pair-i-in-loop-i.ensures.0 c.next_pair-i-in-loop-i.ensures.1),
+  c.next_pair-i-in-loop-i.ensures.2,
+)
 
 pub returns : goal.returns
 unfolding list_verdict list_first

@@ -2,13 +2,11 @@ use Prim.Native.Nat.{ℕ, ◌-◌, ◌≤◌, ◌<◌}
 use mathlib.Core.Path.{◌≡◌}
 use mathlib.Core.Bool.{true}
 use mathlib.Core.List.{List}
-use native.Mathlib.Omega.{arith}
-use borrow.Author.Rules.{rules}
 use Rattle.bounded.specs.Search.{Skipped}
 use Rattle.state.specs.declared.Object.{Object}
-use Rattle.judge.specs.Search.{pair_verdict, list_first}
+use Rattle.judge.specs.Search.{pair_verdict}
 use Rattle.judge.specs.Naming.{names, other_passed}
-use Rattle.judge.specs.Walk.{list_verdict, Walking, walk_start, walk_next, walk_stop, walk_over, walk_skip}
+use Rattle.judge.specs.Walk.{Walking, walk_skip}
 use Rattle.judge.specs.declared.Verdict.{Verdict}
 use Rattle.judge.proofs.pairs.list_verdict.Given as goal
 

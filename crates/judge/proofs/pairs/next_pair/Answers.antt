@@ -1,11 +1,10 @@
-use Prim.Native.Nat.{ℕ, ◌+◌, ◌*◌, ◌/◌, ◌-◌, ◌≤◌}
+use Prim.Native.Nat.{ℕ, ◌+◌, ◌*◌, ◌/◌}
 use mathlib.Core.Path.{◌≡◌}
 use mathlib.Core.Bool.{true}
 use mathlib.Core.List.{List}
 use native.Mathlib.Omega.{arith}
 use lib.ListN.{get_or}
 use borrow.Author.Tests.{eq-eqb, ne_eqb}
-use borrow.Author.Rules.{rules}
 use Rattle.bounded.specs.Search.{Skipped, skipped_none, skipped_more}
 use Rattle.judge.specs.Naming.{names}
 use Rattle.judge.proofs.pairs.next_pair.Goals as goal
@@ -48,26 +47,26 @@ returns-then-list-at c = (c.loop-i.invariant.0, c.loop-i.invariant.1, λ h. eq-e
 pub returns-then-list-at-2 : goal.returns-then-list-at-2
 unfolding Other
 returns-then-list-at-2 c = (
-      one c.args.list.now c.args.base _ _ c.loop-i.invariant.0 c.if-list-at.false,
-      omega arith,
-      λ h. hit c.args.list.now c.args.base (c.loop-i.i + 1) (2 * c.loop-i.i + 2) (omega arith) c.if-list-at-2.true,
-    )
+  one c.args.list.now c.args.base _ _ c.loop-i.invariant.0 c.if-list-at.false,
+  omega arith,
+  λ h. hit c.args.list.now c.args.base (c.loop-i.i + 1) (2 * c.loop-i.i + 2) (omega arith) c.if-list-at-2.true,
+)
 
 pub returns-then-list-at-3 : goal.returns-then-list-at-3
 unfolding Other
 returns-then-list-at-3 c = (
-      two c.args.list.now c.args.base _ _ c.loop-i.invariant.0 c.if-list-at.false c.if-list-at-2.false,
-      omega arith,
-      λ h. hit c.args.list.now c.args.base (c.loop-i.i + 2) (2 * c.loop-i.i + 4) (omega arith) c.if-list-at-3.true,
-    )
+  two c.args.list.now c.args.base _ _ c.loop-i.invariant.0 c.if-list-at.false c.if-list-at-2.false,
+  omega arith,
+  λ h. hit c.args.list.now c.args.base (c.loop-i.i + 2) (2 * c.loop-i.i + 4) (omega arith) c.if-list-at-3.true,
+)
 
 pub returns-then-list-at-4 : goal.returns-then-list-at-4
 unfolding Other
 returns-then-list-at-4 c = (
-      three c.args.list.now c.args.base _ _ c.loop-i.invariant.0 c.if-list-at.false c.if-list-at-2.false c.if-list-at-3.false,
-      omega arith,
-      λ h. hit c.args.list.now c.args.base (c.loop-i.i + 3) (2 * c.loop-i.i + 6) (omega arith) c.if-list-at-4.true,
-    )
+  three c.args.list.now c.args.base _ _ c.loop-i.invariant.0 c.if-list-at.false c.if-list-at-2.false c.if-list-at-3.false,
+  omega arith,
+  λ h. hit c.args.list.now c.args.base (c.loop-i.i + 3) (2 * c.loop-i.i + 6) (omega arith) c.if-list-at-4.true,
+)
 
 pub loop-i-preserved : goal.loop-i-preserved
 unfolding Other

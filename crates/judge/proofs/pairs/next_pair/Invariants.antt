@@ -1,12 +1,5 @@
-use Prim.Native.Nat.{ℕ, ◌+◌, ◌*◌, ◌/◌, ◌-◌, ◌≤◌}
-use mathlib.Core.Path.{◌≡◌}
-use mathlib.Core.Bool.{true}
-use mathlib.Core.List.{List}
-use native.Mathlib.Omega.{arith}
-use lib.ListN.{get_or}
-use borrow.Author.Tests.{eq-eqb, ne_eqb}
-use borrow.Author.Rules.{rules}
-use Rattle.bounded.specs.Search.{Skipped, skipped_none, skipped_more}
+use Prim.Native.Nat.{◌-◌, ◌≤◌}
+use Rattle.bounded.specs.Search.{Skipped}
 use Rattle.judge.specs.Naming.{names}
 use Rattle.judge.proofs.pairs.next_pair.Given as goal
 

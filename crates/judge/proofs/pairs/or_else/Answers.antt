@@ -1,4 +1,3 @@
-use borrow.Author.Rules.{rules}
 use Rattle.judge.proofs.pairs.or_else.Goals as goal
 
 pub returns-in-Granted : goal.returns-in-Granted

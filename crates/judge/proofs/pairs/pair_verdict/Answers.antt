@@ -1,4 +1,3 @@
-use borrow.Author.Rules.{rules}
 use Rattle.judge.specs.Search.{pair_mode, pair_verdict}
 use Rattle.judge.proofs.pairs.pair_verdict.Goals as goal
 

@@ -1,4 +1,3 @@
-use borrow.Author.Rules.{rules}
 use Rattle.judge.specs.Search.{verdict_of}
 use Rattle.judge.proofs.pairs.verdict_of.Goals as goal
 

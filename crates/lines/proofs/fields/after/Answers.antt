@@ -1,5 +1,4 @@
 use borrow.Author.Tests.{lt-leb, le-leb}
-use borrow.Author.Rules.{rules}
 use Rattle.lines.proofs.fields.after.Goals as goal
 
 pub returns-then-b-lt48 : goal.returns-then-b-lt48

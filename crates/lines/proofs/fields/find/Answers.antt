@@ -4,13 +4,9 @@ use mathlib.Core.List.{List}
 use native.Mathlib.Omega.{arith}
 use lib.ListN.{length, drop, get_or}
 use Rattle.lines.specs.Until.{until, Seeking, seeking_none, seeking_more, seeking_found, seeking_all, until_within}
-use borrow.Author.Rules.{rules}
 use Rattle.lines.proofs.fields.find.Goals as goal
 
 -- no b stands before byte i, which is in the text or its end
-
-
-
 
 -- what is promised of a result_of i
 abbrev Answer : ℕ → List ℕ → ℕ → ℕ → Type 0

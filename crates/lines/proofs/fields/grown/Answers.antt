@@ -1,7 +1,6 @@
 use Prim.Native.Nat.{◌+◌, ◌*◌, ◌-◌, ◌^◌}
 use native.Mathlib.Omega.{arith}
 use borrow.Author.Tests.{eq-eqb, ne_eqb, le-ltb, lt-ltb}
-use borrow.Author.Rules.{rules}
 use Rattle.lines.proofs.fields.grown.Goals as goal
 
 pub returns-then-v-eq0 : goal.returns-then-v-eq0

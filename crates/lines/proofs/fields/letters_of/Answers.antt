@@ -1,6 +1,5 @@
 use mathlib.Core.Path.{◌∙◌}
 use borrow.Author.Tests.{eq-eqb, ne_eqb}
-use borrow.Author.Rules.{rules}
 use Rattle.lines.proofs.fields.letters_of.Goals as goal
 
 pub returns-then-s-ne2 : goal.returns-then-s-ne2

@@ -1,9 +1,5 @@
-use Prim.Native.Nat.{◌-◌}
-use lib.ListN.{length}
-use Rattle.bounded.specs.Folds.{Folding, folding_none, folding_more, folding_all}
-use Rattle.lines.specs.declared.Field.TheVariants.{Empty}
-use Rattle.lines.specs.Number.{after, field_of}
-use borrow.Author.Rules.{rules}
+use Rattle.bounded.specs.Folds.{folding_none, folding_more, folding_all}
+use Rattle.lines.specs.Number.{field_of}
 use Rattle.lines.proofs.fields.long_number.Goals as goal
 
 pub loop-i-init : goal.loop-i-init

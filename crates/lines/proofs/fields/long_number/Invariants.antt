@@ -1,9 +1,8 @@
 use Prim.Native.Nat.{◌-◌}
 use lib.ListN.{length}
-use Rattle.bounded.specs.Folds.{Folding, folding_none, folding_more, folding_all}
+use Rattle.bounded.specs.Folds.{Folding}
 use Rattle.lines.specs.declared.Field.TheVariants.{Empty}
-use Rattle.lines.specs.Number.{after, field_of}
-use borrow.Author.Rules.{rules}
+use Rattle.lines.specs.Number.{after}
 use Rattle.lines.proofs.fields.long_number.Given as goal
 
 abbrev pub invariant-loop-i : goal.invariant-loop-i

@@ -1,6 +1,5 @@
 use native.Mathlib.Omega.{arith}
 use Rattle.lines.specs.Bytes.{empty_field, zero_field, zero_alone}
-use borrow.Author.Rules.{rules}
 use Rattle.lines.proofs.fields.number.Goals as goal
 
 pub returns-then-n-eq0 : goal.returns-then-n-eq0

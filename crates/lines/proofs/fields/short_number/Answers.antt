@@ -1,9 +1,7 @@
-use Prim.Native.Nat.{◌-◌}
 use native.Mathlib.Omega.{arith}
-use lib.ListN.{length, get_or}
+use lib.ListN.{get_or}
 use Rattle.lines.specs.Bytes.{below_digits, above_digits}
-use Rattle.lines.specs.Short.{Digits, digits_none, digits_fit, digits_bad, digits_more, digits_all}
-use borrow.Author.Rules.{rules}
+use Rattle.lines.specs.Short.{digits_none, digits_fit, digits_bad, digits_more, digits_all}
 use Rattle.lines.proofs.fields.short_number.Goals as goal
 
 pub loop-i-init : goal.loop-i-init

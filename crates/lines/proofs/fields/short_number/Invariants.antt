@@ -1,9 +1,6 @@
 use Prim.Native.Nat.{◌-◌}
-use native.Mathlib.Omega.{arith}
-use lib.ListN.{length, get_or}
-use Rattle.lines.specs.Bytes.{below_digits, above_digits}
-use Rattle.lines.specs.Short.{Digits, digits_none, digits_fit, digits_bad, digits_more, digits_all}
-use borrow.Author.Rules.{rules}
+use lib.ListN.{length}
+use Rattle.lines.specs.Short.{Digits}
 use Rattle.lines.proofs.fields.short_number.Given as goal
 
 abbrev pub invariant-loop-i : goal.invariant-loop-i

@@ -1,6 +1,5 @@
 use mathlib.Core.Path.{◌∙◌}
 use Rattle.lines.specs.Grammar.{call_of}
-use borrow.Author.Rules.{rules}
 use Rattle.lines.proofs.grammar.call_of.Goals as goal
 
 pub returns-in-Rd : goal.returns-in-Rd

@@ -1,6 +1,4 @@
-use lib.ListN.{length-map}
 use borrow.Author.Tests.{eq-eqb}
-use borrow.Author.Rules.{rules}
 use Rattle.bounded.specs.Every.{below}
 use Rattle.soundness.specs.Sound.{accounts_ok}
 use Rattle.soundness.proofs.accounts.accounts_ok.Goals as goal

@@ -1,4 +1,3 @@
-use borrow.Author.Rules.{rules}
 use Rattle.bounded.specs.Every.{below}
 use Rattle.soundness.specs.Sound.{frame_bounds}
 use Rattle.soundness.specs.Laws.Reach.{slots_reach}

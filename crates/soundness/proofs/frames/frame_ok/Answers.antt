@@ -1,6 +1,4 @@
-use lib.ListN.{length-map}
 use borrow.Author.Tests.{eq-eqb}
-use borrow.Author.Rules.{rules}
 use Rattle.soundness.specs.Sound.{frame_ok}
 use Rattle.soundness.specs.Laws.Reach.{where_unused}
 use Rattle.soundness.proofs.frames.frame_ok.Goals as goal

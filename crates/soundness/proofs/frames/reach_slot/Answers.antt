@@ -1,4 +1,3 @@
-use borrow.Author.Rules.{rules}
 use Rattle.soundness.specs.Laws.Reach.{blank_or, blank_no}
 use Rattle.soundness.proofs.frames.reach_slot.Goals as goal
 

@@ -1,4 +1,3 @@
-use borrow.Author.Rules.{rules}
 use Rattle.soundness.specs.Laws.Reach.{reach}
 use Rattle.soundness.proofs.objects.entries_reach.Goals as goal
 

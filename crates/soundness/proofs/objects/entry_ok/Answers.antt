@@ -1,4 +1,3 @@
-use borrow.Author.Rules.{rules}
 use Rattle.soundness.proofs.objects.entry_ok.Goals as goal
 
 pub returns : goal.returns

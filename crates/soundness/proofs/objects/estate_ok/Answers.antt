@@ -1,6 +1,4 @@
-use lib.ListN.{length-map}
 use borrow.Author.Tests.{eq-eqb}
-use borrow.Author.Rules.{rules}
 use Rattle.soundness.specs.Sound.{estate_ok}
 use Rattle.soundness.proofs.objects.estate_ok.Goals as goal
 

@@ -1,5 +1,4 @@
 use mathlib.Core.Path.{refl}
-use borrow.Author.Rules.{rules}
 use Rattle.soundness.specs.Sound.{follows}
 use Rattle.soundness.proofs.objects.follows.Goals as goal
 

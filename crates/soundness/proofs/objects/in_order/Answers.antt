@@ -1,4 +1,3 @@
-use borrow.Author.Rules.{rules}
 use Rattle.bounded.specs.Every.{below}
 use Rattle.soundness.specs.Sound.{ordered_at}
 use Rattle.soundness.proofs.objects.in_order.Goals as goal

@@ -1,6 +1,4 @@
-use lib.ListN.{length-map}
 use borrow.Author.Tests.{eq-eqb}
-use borrow.Author.Rules.{rules}
 use Rattle.bounded.specs.Every.{below}
 use Rattle.soundness.specs.Sound.{password_ok, passwords_ok, object_bounds, object_ok}
 use Rattle.soundness.proofs.objects.object_ok.Goals as goal

@@ -1,4 +1,3 @@
-use borrow.Author.Rules.{rules}
 use Rattle.bounded.specs.Every.{below}
 use Rattle.soundness.proofs.objects.objects_ok.Goals as goal
 

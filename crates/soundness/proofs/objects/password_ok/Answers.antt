@@ -2,7 +2,6 @@ use mathlib.Core.Path.{◌≡◌, refl, ap}
 use native.Mathlib.Omega.{arith}
 use lib.Dec.{eqb}
 use lib.ListN.{length}
-use borrow.Author.Rules.{rules}
 use Rattle.rights.specs.Modes.{legal}
 use Rattle.rights.specs.Table.{mode_table}
 use Rattle.rights.specs.Laws.{table_legal}

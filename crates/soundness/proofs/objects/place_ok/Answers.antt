@@ -1,4 +1,3 @@
-use borrow.Author.Rules.{rules}
 use Rattle.soundness.specs.Laws.Reach.{choice}
 use Rattle.soundness.proofs.objects.place_ok.Goals as goal
 

@@ -1,4 +1,3 @@
-use borrow.Author.Rules.{rules}
 use Rattle.bounded.specs.Every.{below}
 use Rattle.soundness.specs.Sound.{blank, registration_ok}
 use Rattle.soundness.specs.Laws.Reach.{choice, entries_reach}

@@ -1,4 +1,3 @@
-use borrow.Author.Rules.{rules}
 use Rattle.bounded.specs.Every.{below}
 use Rattle.soundness.specs.Sound.{without_passwords}
 use Rattle.soundness.proofs.objects.without_passwords.Goals as goal

@@ -1,6 +1,5 @@
 use mathlib.Core.Path.{refl}
 use borrow.Author.Tests.{lt-ltb, le-ltb}
-use borrow.Author.Rules.{rules}
 use Rattle.state.specs.Lookup.{based, place_based}
 use Rattle.bounded.specs.Place.{by_place}
 use Rattle.state.proofs.estates.based.Goals as goal

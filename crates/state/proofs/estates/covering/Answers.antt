@@ -1,12 +1,10 @@
-use Prim.Native.Nat.{◌-◌}
 use mathlib.Core.Path.{◌∙◌, sym}
 use lib.Dec.{leb}
-use borrow.Author.Rules.{rules}
 use borrow.Author.Tests.{le-leb, lt-leb, lt-ltb, le-ltb}
 use Rattle.bounded.specs.Bools.{cond_same}
-use Rattle.bounded.specs.Search.{Searching, start, next, stop, over}
-use Rattle.state.specs.Places.{free_object, object_at}
-use Rattle.state.specs.Lookup.{ends_behind, covering}
+use Rattle.bounded.specs.Search.{start, next, stop, over}
+use Rattle.state.specs.Places.{free_object}
+use Rattle.state.specs.Lookup.{covering}
 use Rattle.state.proofs.estates.covering.Goals as goal
 
 pub loop-k-init : goal.loop-k-init

@@ -1,12 +1,7 @@
 use Prim.Native.Nat.{◌-◌}
-use mathlib.Core.Path.{◌∙◌, sym}
-use lib.Dec.{leb}
-use borrow.Author.Rules.{rules}
-use borrow.Author.Tests.{le-leb, lt-leb, lt-ltb, le-ltb}
-use Rattle.bounded.specs.Bools.{cond_same}
-use Rattle.bounded.specs.Search.{Searching, start, next, stop, over}
+use Rattle.bounded.specs.Search.{Searching}
 use Rattle.state.specs.Places.{free_object, object_at}
-use Rattle.state.specs.Lookup.{ends_behind, covering}
+use Rattle.state.specs.Lookup.{ends_behind}
 use Rattle.state.proofs.estates.covering.Given as goal
 
 abbrev pub invariant-loop-k : goal.invariant-loop-k

@@ -1,4 +1,3 @@
-use borrow.Author.Rules.{rules}
 use Rattle.state.specs.Lookup.{has_room}
 use Rattle.state.proofs.estates.has_room.Goals as goal
 

@@ -1,9 +1,6 @@
-use Prim.Native.Nat.{◌-◌}
 use mathlib.Core.Path.{◌∙◌, sym}
-use borrow.Author.Rules.{rules}
-use Rattle.bounded.specs.Search.{Searching, start, next, stop, over}
-use Rattle.state.specs.Places.{object_at}
-use Rattle.state.specs.Lookup.{has_base, place_based}
+use Rattle.bounded.specs.Search.{start, next, stop, over}
+use Rattle.state.specs.Lookup.{place_based}
 use Rattle.state.proofs.estates.place_based.Goals as goal
 
 pub loop-k-init : goal.loop-k-init

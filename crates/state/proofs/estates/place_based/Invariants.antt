@@ -1,9 +1,7 @@
 use Prim.Native.Nat.{◌-◌}
-use mathlib.Core.Path.{◌∙◌, sym}
-use borrow.Author.Rules.{rules}
-use Rattle.bounded.specs.Search.{Searching, start, next, stop, over}
+use Rattle.bounded.specs.Search.{Searching}
 use Rattle.state.specs.Places.{object_at}
-use Rattle.state.specs.Lookup.{has_base, place_based}
+use Rattle.state.specs.Lookup.{has_base}
 use Rattle.state.proofs.estates.place_based.Given as goal
 
 abbrev pub invariant-loop-k : goal.invariant-loop-k

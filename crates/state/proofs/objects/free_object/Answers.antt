@@ -1,4 +1,3 @@
-use borrow.Author.Rules.{rules}
 use Rattle.state.proofs.objects.free_object.Goals as goal
 
 pub returns : goal.returns

@@ -1,4 +1,3 @@
-use borrow.Author.Rules.{rules}
 use Rattle.state.proofs.objects.free_password_place.Goals as goal
 
 pub returns : goal.returns

@@ -1,4 +1,3 @@
-use borrow.Author.Rules.{rules}
 use Rattle.state.specs.Lookup.{has_password}
 use Rattle.state.proofs.objects.has_password.Goals as goal
 

@@ -1,4 +1,3 @@
-use borrow.Author.Rules.{rules}
 use Rattle.state.specs.Lookup.{mode_of}
 use Rattle.state.proofs.objects.mode_of.Goals as goal
 

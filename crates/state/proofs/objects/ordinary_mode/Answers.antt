@@ -1,5 +1,4 @@
 use borrow.Author.Tests.{eq-eqb, ne_eqb}
-use borrow.Author.Rules.{rules}
 use Rattle.bounded.specs.Search.{first}
 use Rattle.state.specs.Lookup.{ordinary_mode}
 use Rattle.state.proofs.objects.ordinary_mode.Goals as goal

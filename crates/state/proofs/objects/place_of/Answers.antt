@@ -1,5 +1,4 @@
 use borrow.Author.Tests.{eq-eqb, ne_eqb}
-use borrow.Author.Rules.{rules}
 use Rattle.bounded.specs.Search.{first}
 use Rattle.state.specs.Lookup.{place_of}
 use Rattle.state.proofs.objects.place_of.Goals as goal

@@ -2,7 +2,6 @@ use Rattle.state.specs.Places.{no_estate}
 use Rattle.std.proofs.Common.{length, ◌≡◌}
 use Prim.Native.Nat.{◌/◌, ◌≤◌}
 use native.Mathlib.Omega.{arith}
-use borrow.Author.Rules.{rules}
 use Rattle.state.specs.Lookup.{object_based}
 use Rattle.state.specs.Laws.Lookup.{based_none}
 use Rattle.state.proofs.Past.{past_get}

@@ -1,5 +1,4 @@
 use borrow.Author.Tests.{lt-ltb, le-ltb}
-use borrow.Author.Rules.{rules}
 use Rattle.state.specs.Update.{save_domain}
 use Rattle.updates.proofs.domains.save_domain.Goals as goal
 

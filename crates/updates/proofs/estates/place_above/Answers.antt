@@ -1,10 +1,4 @@
-use Prim.Native.Nat.{◌-◌}
-use mathlib.Core.Bool.{◌||◌}
-use lib.Dec.{ltb}
-use borrow.Author.Rules.{rules}
-use Rattle.bounded.specs.Search.{Searching, start, next, stop, over}
-use Rattle.state.specs.Places.{object_at}
-use Rattle.state.specs.Extent.{free}
+use Rattle.bounded.specs.Search.{start, next, stop, over}
 use Rattle.state.specs.Lookup.{place_above}
 use Rattle.updates.proofs.estates.place_above.Goals as goal
 

@@ -1,11 +1,9 @@
 use Prim.Native.Nat.{◌-◌}
 use mathlib.Core.Bool.{◌||◌}
 use lib.Dec.{ltb}
-use borrow.Author.Rules.{rules}
-use Rattle.bounded.specs.Search.{Searching, start, next, stop, over}
+use Rattle.bounded.specs.Search.{Searching}
 use Rattle.state.specs.Places.{object_at}
 use Rattle.state.specs.Extent.{free}
-use Rattle.state.specs.Lookup.{place_above}
 use Rattle.updates.proofs.estates.place_above.Given as goal
 
 abbrev pub invariant-loop-k : goal.invariant-loop-k

@@ -1,11 +1,8 @@
-use Prim.Native.Nat.{◌-◌}
 use mathlib.Core.Path.{ap}
 use native.Mathlib.Omega.{arith}
-use lib.ListN.{length-map}
-use borrow.Author.Rules.{rules}
 use Rattle.state.specs.Places.{no_object, free_object}
 use Rattle.state.specs.Update.{remove_object}
-use Rattle.updates.proofs.Shifts.{Closing, open_gap, move_one, closed, no_gap}
+use Rattle.updates.proofs.Shifts.{open_gap, move_one, closed, no_gap}
 use Rattle.updates.proofs.estates.remove_object.Goals as goal
 
 pub returns-then-at-ge8 : goal.returns-then-at-ge8

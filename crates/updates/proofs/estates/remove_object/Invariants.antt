@@ -1,11 +1,6 @@
 use Prim.Native.Nat.{◌-◌}
-use mathlib.Core.Path.{ap}
-use native.Mathlib.Omega.{arith}
-use lib.ListN.{length-map}
-use borrow.Author.Rules.{rules}
-use Rattle.state.specs.Places.{no_object, free_object}
-use Rattle.state.specs.Update.{remove_object}
-use Rattle.updates.proofs.Shifts.{Closing, open_gap, move_one, closed, no_gap}
+use Rattle.state.specs.Places.{no_object}
+use Rattle.updates.proofs.Shifts.{Closing}
 use Rattle.updates.proofs.estates.remove_object.Given as goal
 
 abbrev pub invariant-loop-k : goal.invariant-loop-k

@@ -2,7 +2,6 @@ use Prim.Native.Nat.{◌+◌, max}
 use mathlib.Core.Path.{◌≡◌}
 use native.Mathlib.Omega.{arith}
 use borrow.Author.Tests.{eq-eqb, ne_eqb}
-use borrow.Author.Rules.{rules}
 use Rattle.state.specs.Update.{lock_slot}
 use Rattle.updates.proofs.frames.lock_slot.Goals as goal
 

@@ -1,5 +1,4 @@
 use borrow.Author.Tests.{lt-ltb, le-ltb, eq-eqb, ne_eqb}
-use borrow.Author.Rules.{rules}
 use Rattle.updates.proofs.frames.slot_in.Goals as goal
 
 pub returns-then-k-place : goal.returns-then-k-place

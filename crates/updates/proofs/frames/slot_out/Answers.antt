@@ -1,5 +1,4 @@
 use borrow.Author.Tests.{lt-ltb, le-ltb}
-use borrow.Author.Rules.{rules}
 use Rattle.updates.proofs.frames.slot_out.Goals as goal
 
 pub returns-then-k-at : goal.returns-then-k-at

@@ -1,5 +1,4 @@
 use Rattle.std.proofs.Common.{length, ◌≡◌}
-use borrow.Author.Rules.{rules}
 use Rattle.updates.proofs.Past.{past}
 use Rattle.updates.proofs.objects.with_password.Goals as goal
 

@@ -1,7 +1,5 @@
-use mathlib.Core.Path.{◌≡◌, ap}
+use mathlib.Core.Path.{ap}
 use native.Mathlib.Omega.{arith}
-use lib.ListN.{length-map}
-use borrow.Author.Rules.{rules}
 use Rattle.state.specs.Places.{no_password}
 use Rattle.state.specs.Update.{with_passwords}
 use Rattle.updates.proofs.Shifts.{no_gap}
