@@ -1,5 +1,6 @@
 // The calls that access the store: RD, WR, EX and LK. An access leaves the state as it is.
 #![tactic(auto)]
+
 ghost use Rattle.std.specs.Prelude.{◌≡◌, length};
 ghost use Rattle.judge.specs.Judged.{judged};
 ghost use Rattle.judge.specs.declared.Target.TheVariants.{Address};

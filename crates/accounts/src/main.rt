@@ -1,5 +1,6 @@
 // The pages on account: standard input to its end, and then for each account its pages to standard output.
 #![tactic(auto)]
+
 ghost use Rattle.std.specs.Prelude.{◌≤◌, length, take};
 ghost use Rattle.ending.specs.Printed.{Printed};
 ghost use Rattle.figures.specs.Lines.{figure_lines};

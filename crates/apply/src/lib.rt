@@ -1,5 +1,6 @@
 // Any call by any domain: the door of the monitor beside `boot`.
 #![tactic(auto)]
+
 ghost use Rattle.std.specs.Prelude.{◌≡◌, ◌<◌};
 ghost use Rattle.calls.specs.Step.{world, result_of, step, unchecked};
 ghost use Rattle.calls.specs.Parts.{Alters, Moves};
@@ -116,7 +117,7 @@ pub fn unchecked(s: State, store: &mut [u64], d: u64, call: Call) -> Outcome
     }
 }
 
-// A call by a domain. The paper's number and values of its answer are those of `step`, case by case: `answer-numbers` and the laws behind it
+// A call by a domain. The paper's number and values of its answer are those of `step`, case by case: `answer_numbers` and the laws behind it
 // in `calls`, specs/Laws/Numbers.antt.
 pub fn apply(s: State, store: &mut [u64], d: u64, call: Call) -> Outcome
     ensures { result_of result store.new ≡ step (world s store.old) d call }

@@ -1,5 +1,6 @@
 // BT: the state and the store that a boot leaves.
 #![tactic(auto)]
+
 ghost use Rattle.std.specs.Prelude.{true, ◌≡◌, ◌<◌, length};
 ghost use Rattle.calls.specs.Boot.{account_of, home_estate, home_domain, boot_accounts, boot_state, home_pair, boot_words, plan_ok, booted_by, boot};
 ghost use Rattle.calls.specs.Step.{result_of};
@@ -133,7 +134,7 @@ fn booted(store: &mut [u64], plan: [u64; BOOT_NUMBERS]) -> Outcome
 }
 
 // BT by a domain, with its numbers: home passwords, limits, home accounts and sets. The paper's number and values of its answer:
-// `answer-numbers`, `boot-refused-numbers` and `boot-done-numbers` in `calls`, specs/Laws/Numbers.antt.
+// `answer_numbers`, `boot_refused_numbers` and `boot_done_numbers` in `calls`, specs/Laws/Numbers.antt.
 pub fn boot(store: &mut [u64], d: u64, plan: [u64; BOOT_NUMBERS]) -> Outcome
     ensures { result_of result store.new ≡ boot store.old d plan }
 {

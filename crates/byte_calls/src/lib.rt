@@ -1,5 +1,6 @@
 // Any call on the three slices: the image of the state, the store's bytes, and the values that come back.
 #![tactic(auto)]
+
 ghost use Rattle.std.specs.Prelude.{◌≡◌, cond};
 ghost use Rattle.image.specs.Image.{written};
 ghost use Rattle.byte_calls.specs.Called.{slices, told, is_done, told_by, called, booted};

@@ -1,5 +1,6 @@
 // The object table at the end of the input: what the programs that print it share.
 #![tactic(auto)]
+
 ghost use Rattle.ending.specs.Behind.{Left};
 
 use state::Table;

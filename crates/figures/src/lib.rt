@@ -1,5 +1,6 @@
 // The figures of the accounts as text.
 #![tactic(auto)]
+
 ghost use Rattle.std.specs.Prelude.{◌≡◌, ◌+◌, ◌≤◌, length, take, drop, replicate};
 ghost use Rattle.text.specs.Puts.{Put};
 ghost use Rattle.figures.specs.Lines.{figure_line, figure_lines};

@@ -1,5 +1,6 @@
 // The objects of the object table as text.
 #![tactic(auto)]
+
 ghost use Rattle.std.specs.Prelude.{◌≡◌, ◌+◌, ◌≤◌, length, take, drop, replicate};
 ghost use Rattle.text.specs.Puts.{Put};
 ghost use Rattle.listing.specs.Lines.{one_for, password_count, object_line, place_line, estate_lines, listing};

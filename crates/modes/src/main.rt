@@ -1,6 +1,7 @@
 // Prints the mode rule: a line for each mode from 0 to 255, 1 where it is legal and 0 where not. It works each one out by the rule
 // and does not read the table of `rights`.
 #![tactic(auto)]
+
 ghost use Rattle.std.specs.Prelude.{◌≡◌};
 ghost use Rattle.rights.specs.Modes.{legal};
 ghost use Rattle.modes.specs.Printed.{digit_of, printed};

@@ -1,5 +1,6 @@
 // The call program: standard input to its end, the answers to standard output.
 #![tactic(auto)]
+
 ghost use Rattle.std.specs.Prelude.{◌≡◌, [], ◌≤◌, length, take};
 ghost use Rattle.stream.specs.Run.{last_line};
 ghost use Rattle.stream.specs.Feed.{standing};

@@ -1,5 +1,6 @@
 // The calls on an object that stands: DL, AP and DP. Each hands back its answer beside the estate that it changed.
 #![tactic(auto)]
+
 ghost use Rattle.std.specs.Prelude.{◌≡◌, ℕ, ◌<◌};
 ghost use Rattle.state.specs.declared.Accounts.{Accounts as Limits};
 ghost use Rattle.calls.specs.Rules.{in_range};

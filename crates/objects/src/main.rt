@@ -1,5 +1,6 @@
 // The objects: standard input to its end, and then a header and a line for each object to standard output.
 #![tactic(auto)]
+
 ghost use Rattle.std.specs.Prelude.{◌≤◌, length, take};
 ghost use Rattle.ending.specs.Printed.{Printed};
 ghost use Rattle.listing.specs.Lines.{listing};

@@ -1,5 +1,6 @@
 // The C functions of include/reshqobi.h: each hands its numbers on as a call on the three slices.
 #![tactic(auto)]
+
 ghost use Rattle.std.specs.Prelude.{◌≡◌, [], ◌∷◌};
 ghost use Rattle.byte_calls.specs.Called.{slices, told, booted};
 

@@ -1,5 +1,6 @@
 // The calls into and out of a PDX procedure, CA and RT: each hands back its answer beside the caller's domain.
 #![tactic(auto)]
+
 ghost use Rattle.std.specs.Prelude.{◌≡◌, not, ◌||◌, List, ℕ, ◌<◌, leb, ltb, eqb, length};
 ghost use Rattle.state.specs.Places.{entry_at};
 ghost use Rattle.state.specs.declared.Table.{Table as Objects};

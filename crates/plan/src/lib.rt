@@ -1,5 +1,6 @@
 // Whether the numbers of a boot are in range.
 #![tactic(auto)]
+
 ghost use Rattle.std.specs.Prelude.{cond, ◌&&◌, ◌≡◌, leb, ltb, eqb};
 ghost use Rattle.state.specs.Pages.{in_set};
 ghost use Rattle.calls.specs.Boot.{homes_ok, limits_ok, sets_ok, home_pages, room_ok, plan_ok};

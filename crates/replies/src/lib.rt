@@ -1,6 +1,7 @@
 // A line of the call program, answered into a lent buffer: what it asks for, and how each kind of line but a call on the caller's domain is
 // answered.
 #![tactic(auto)]
+
 use calls::{Access, DomainCall, ObjectCall};
 use state::{Estate, State};
 

@@ -1,6 +1,7 @@
 // What a test of soundness costs: two states tested in turn, 1,000 times in all, and how many tests passed. The state is
 // picked by number, so that no test can be done once for all. `make bench` counts the instructions.
 #![tactic(auto)]
+
 ghost use Rattle.std.specs.Prelude.{◌<◌, ◌≤◌};
 
 use libc::STDOUT_FILENO;

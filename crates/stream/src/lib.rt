@@ -1,5 +1,6 @@
 // The call program's work on the pieces of its input.
 #![tactic(auto)]
+
 ghost use Rattle.std.specs.Prelude.{◌≡◌, true, ◌≤◌, min, length, take};
 ghost use mathlib.Core.List.{foldl};
 ghost use Rattle.calls.specs.Step.{unchecked};

@@ -1,5 +1,6 @@
 // Answers as text.
 #![tactic(auto)]
+
 ghost use Rattle.std.specs.Prelude.{◌≡◌, [], ◌∷◌, ◌+◌, ◌*◌, ◌<◌, ◌≤◌, length};
 ghost use Rattle.calls.specs.Answers.{number_of, value_of, values_from};
 ghost use Rattle.text.specs.Decimal.{decimal, last_digits, Places};

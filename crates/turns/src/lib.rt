@@ -1,5 +1,6 @@
 // Standard input to its end, its lines answered: what the programs that read call lines share.
 #![tactic(auto)]
+
 ghost use Rattle.std.specs.Prelude.{◌≡◌, true, false, ◌≤◌, length};
 ghost use Rattle.stream.specs.Feed.{Reached};
 ghost use Rattle.turns.specs.Led.{Begun};

@@ -1,4 +1,3 @@
-use borrow.Author.Rules.{rules}
 use Rattle.access_calls.proofs.access.Goals as goal
 
 pub returns-in-Read : goal.returns-in-Read

@@ -1,11 +1,4 @@
-use mathlib.Core.Path.{◌≡◌}
-use lib.ListN.{length}
 use borrow.Author.Tests.{eq-eqb, ne_eqb, lt-ltb, le-ltb}
-use borrow.Author.Rules.{rules}
-use Rattle.judge.specs.Judged.{judged}
-use Rattle.judge.specs.declared.Target.TheVariants.{Address}
-use Rattle.judge.specs.declared.Judgement.{Judgement}
-use Rattle.access_calls.specs.Accessed.{grant_of, accessed_by}
 use Rattle.access_calls.proofs.accessed.Goals as goal
 
 pub returns-then-store-ne-STORE_WORDS : goal.returns-then-store-ne-STORE_WORDS

@@ -3,7 +3,6 @@ use mathlib.Core.Path.{◌≡◌, refl, sym, ◌∙◌}
 use native.Mathlib.Nat.{le_of_eq}
 use native.Mathlib.Omega.{arith}
 use borrow.Author.Tests.{le-ltb, lt-ltb}
-use borrow.Author.Rules.{rules}
 use Rattle.bounded.specs.Bools.{and_both}
 use Rattle.calls.specs.Laws.Parts.{answers_length, answers_range}
 use Rattle.calls.specs.declared.Access.TheVariants.{Lookup}

@@ -1,5 +1,4 @@
 use mathlib.Core.Path.{refl, sym, ◌∙◌}
-use borrow.Author.Rules.{rules}
 use Rattle.calls.specs.declared.Access.TheVariants.{Execute}
 use Rattle.access_calls.specs.Laws.{refused, granted}
 use Rattle.access_calls.proofs.execute.Goals as goal

@@ -1,5 +1,5 @@
 use mathlib.Core.Path.{refl, sym, ◌∙◌}
-use borrow.Author.Rules.{rules, scaled_Fits}
+use borrow.Author.Rules.{scaled_Fits}
 use Rattle.calls.specs.declared.Access.TheVariants.{Read}
 use Rattle.access_calls.specs.Laws.{within, refused, granted}
 use Rattle.access_calls.proofs.read.Goals as goal

@@ -1,5 +1,4 @@
 use borrow.Author.Tests.{eq-eqb, ne_eqb}
-use borrow.Author.Rules.{rules}
 use Rattle.pdx_calls.proofs.entered.Goals as goal
 
 pub returns-then-choice-eq0 : goal.returns-then-choice-eq0

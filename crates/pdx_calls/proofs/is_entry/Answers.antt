@@ -1,4 +1,3 @@
-use borrow.Author.Rules.{rules}
 use Rattle.bounded.specs.Every.{below}
 use Rattle.calls.specs.Arguments.{is_entry}
 use Rattle.pdx_calls.proofs.is_entry.Goals as goal

@@ -3,7 +3,6 @@ use mathlib.Core.Bool.{true, not, ◌&&◌}
 use lib.Dec.{ltb}
 use lib.ListN.{length}
 use borrow.Author.Tests.{lt-ltb, le-ltb}
-use borrow.Author.Rules.{rules}
 use Rattle.calls.specs.Rules.{rule, in_range, unlocked, late, changes}
 use Rattle.calls.specs.Laws.Parts.{moves_length, moves_range, moves_lock, moves_late, moves_done}
 use Rattle.calls.specs.Laws.Told.{holds, fails}

@@ -2,7 +2,6 @@ use mathlib.Core.Path.{refl, ap}
 use native.Mathlib.Nat.{pos_of_ne-zero}
 use lib.Dec.{ltb}
 use borrow.Author.Tests.{lt-ltb}
-use borrow.Author.Rules.{rules}
 use Rattle.calls.specs.Rules.{rule, in_range, unlocked, late, changes}
 use Rattle.calls.specs.Laws.Parts.{moves_late, moves_done}
 use Rattle.pdx_calls.proofs.pdx_return.Goals as goal

@@ -1,5 +1,4 @@
 use native.Mathlib.Nat.{zero-add}
-use borrow.Author.Rules.{rules}
 use Rattle.bounded.specs.Sum.{total}
 use Rattle.calls.specs.Boot.{home_pages}
 use Rattle.plan.proofs.home_pages.Goals as goal

@@ -1,4 +1,3 @@
-use borrow.Author.Rules.{rules}
 use Rattle.bounded.specs.Every.{below}
 use Rattle.calls.specs.Boot.{limits_ok}
 use Rattle.plan.proofs.limits_ok.Goals as goal

@@ -1,4 +1,3 @@
-use borrow.Author.Rules.{rules}
 use Rattle.calls.specs.Boot.{plan_ok}
 use Rattle.plan.proofs.plan_ok.Goals as goal
 

@@ -1,4 +1,3 @@
-use borrow.Author.Rules.{rules}
 use Rattle.bounded.specs.Every.{below}
 use Rattle.calls.specs.Boot.{sets_ok}
 use Rattle.plan.proofs.sets_ok.Goals as goal

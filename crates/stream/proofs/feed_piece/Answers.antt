@@ -26,13 +26,13 @@ loop-from-smaller-then-end-piece c = let more : (c.loop-from.from < length c.arg
 
 pub loop-from-preserved-then-end-piece : goal.loop-from-preserved-then-end-piece
 loop-from-preserved-then-end-piece c = record {
-      fed = fed_part unchecked held_byte c.loop-from.invariant.fed c.find-end.ensures.0 c.hold-held.ensures.0;
-      few = c.hold-held.ensures.1;
-      hold = c.hold-held.auto.line ∙ c.loop-from.invariant.hold;
-      buffer = c.loop-from.invariant.buffer;
-      store = c.loop-from.invariant.store;
-      within = c.loop-from.invariant.within;
-    }
+  fed = fed_part unchecked held_byte c.loop-from.invariant.fed c.find-end.ensures.0 c.hold-held.ensures.0;
+  few = c.hold-held.ensures.1;
+  hold = c.hold-held.auto.line ∙ c.loop-from.invariant.hold;
+  buffer = c.loop-from.invariant.buffer;
+  store = c.loop-from.invariant.store;
+  within = c.loop-from.invariant.within;
+}
 
 pub loop-from-smaller-in-Known : goal.loop-from-smaller-in-Known
 loop-from-smaller-in-Known c = let more : (c.loop-from.from < length c.args.piece.now) = still_more c.loop-from.from (length c.args.piece.now) c.has_room.result c.loop-from-test.true in
@@ -133,5 +133,5 @@ returns c = let long : length c.args.f.line ≡ held_bytes = c.well_formed.0.1.1
     record {
       out_after = rw c.state_of.ensures
           (c.loop-from.invariant.fed.done ∙ ap (λ z. foldl (on_held unchecked) z (take c.loop-from.from c.args.piece.now)) (clip_progress c.args.f.state c.args.store.now c.args.f.number c.args.f.line c.args.f.held c.args.out.now c.args.f.at long c.at_most-held.ensures c.at_most-at.ensures));
-      taken_in_bounds = (c.loop-from.invariant.fed.bound, rw (← c.loop-from.invariant.buffer) (stopped_at (length c.args.piece.now) (length c.loop-from.out) c.loop-from.from c.loop-from.at c.has_room.result c.loop-from.invariant.fed.bound c.has_room.ensures c.loop-from-test.false), omega arith, c.loop-from.invariant.few)
+      taken_in_bounds = (c.loop-from.invariant.fed.bound, rw (← c.loop-from.invariant.buffer) (stopped_at (length c.args.piece.now) (length c.loop-from.out) c.loop-from.from c.loop-from.at c.has_room.result c.loop-from.invariant.fed.bound c.has_room.ensures c.loop-from-test.false), omega arith, c.loop-from.invariant.few);
     }

@@ -19,13 +19,15 @@ loop-i-preserved c = spelling_two c.loop-i.invariant c.requires c.loop-i-test.tr
 pub shape_of-out : goal.shape_of-out
 shape_of-out c =
     elim c.if-i-eq1.branch [
-    then-i-eq1 w ↦ ap length w.out-is ∙ length-set c.loop-i.out _ _ ∙ c.loop-i.invariant.same_length
-    | else-i-eq1 w ↦ ap length w.out-is ∙ c.loop-i.invariant.same_length ]
+      | then-i-eq1 w ↦ ap length w.out-is ∙ length-set c.loop-i.out _ _ ∙ c.loop-i.invariant.same_length
+      | else-i-eq1 w ↦ ap length w.out-is ∙ c.loop-i.invariant.same_length
+    ]
 
 pub returns : goal.returns
 returns c = (
-      elim c.if-i-eq1.branch [
-      then-i-eq1 w ↦ rw w.out-is (spelling_all (spelling_one c.loop-i.invariant c.requires w.if-i-eq1.true) c.requires (omega arith))
-      | else-i-eq1 w ↦ rw w.out-is (spelling_all c.loop-i.invariant c.requires (omega arith)) ],
-      refl,
-    )
+  elim c.if-i-eq1.branch [
+    | then-i-eq1 w ↦ rw w.out-is (spelling_all (spelling_one c.loop-i.invariant c.requires w.if-i-eq1.true) c.requires (omega arith))
+    | else-i-eq1 w ↦ rw w.out-is (spelling_all c.loop-i.invariant c.requires (omega arith))
+  ],
+  refl,
+)
