@@ -23,7 +23,7 @@ module _ {old : List ℕ} {at n k : ℕ} where
   spelling_none = record { bound = omega arith; same_length = refl; last = []; whole = sym (append-nil _); front = refl; behind = refl }
 
   module _ {out : List ℕ} {rest i : ℕ} (p : Spelling old at n k out rest i) where
-    spelling_more : at + k ≤ length old → 0 < i → Spelling old at n k (set out (at + (i - 1)) (48 + rest % 10)) (rest / 10) (i - 1)
+    pub spelling_more : at + k ≤ length old → 0 < i → Spelling old at n k (set out (at + (i - 1)) (48 + rest % 10)) (rest / 10) (i - 1)
     spelling_more h z =
         let j : ℕ = i - 1 in
         let d : ℕ = 48 + rest % 10 in
