@@ -6,7 +6,7 @@ ghost use Rattle.std.specs.Prelude.{◌≡◌};
 ghost use Rattle.rights.specs.Modes.{legal};
 ghost use Rattle.modes.specs.Printed.{digit_of, printed};
 
-use libc::STDOUT_FILENO;
+use std::io::Print;
 
 // Whether a number is a legal mode: below 256, bits 32 and 64 clear, some right, and PDX (16) only beside NOT (128).
 fn rule(mode: u64) -> bool
@@ -38,6 +38,6 @@ fn text() -> [u8; 512]
     lines
 }
 
-fn main() {
-    io::write_all(STDOUT_FILENO, &text());
+fn main(rt: HostRuntime) {
+    let _ = rt.write_all(&text());
 }

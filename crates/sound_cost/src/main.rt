@@ -4,7 +4,6 @@
 
 ghost use Rattle.std.specs.Prelude.{◌<◌, ◌≤◌};
 
-use libc::STDOUT_FILENO;
 use soundness::sound;
 use state::{Accounts, Capability, Domain, Estate, Object, Registration, State};
 use updates::domains::save_domain;
@@ -95,7 +94,7 @@ fn passed() -> u64
     n
 }
 
-fn main() {
-    io::print_decimal(STDOUT_FILENO, passed());
-    io::write_all(STDOUT_FILENO, b"\n");
+fn main(rt: HostRuntime) {
+    let n = passed();
+    let _ = println!(rt; "{n}");
 }
