@@ -17,16 +17,17 @@ fn put_last(f: Feed, out: &mut [u8]) -> usize
     finish(f, out)
 }
 
-fn main() {
+fn main(rt: HostRuntime) {
+    let output = rt.stdout();
     let mut store = [0u64; 8192];
     let mut last = [0u8; 273];
-    if !write_text(&header()) {
+    if !write_text(output, &header()) {
         return;
     }
-    let end = run(&mut store, true);
+    let end = run(rt.stdin(), output, &mut store, true);
     if end.written {
         let f = end.feed;
         let at = put_last(f, &mut last);
-        write_text(&last[..at]);
+        write_text(output, &last[..at]);
     }
 }

@@ -5,6 +5,7 @@ ghost use Rattle.std.specs.Prelude.{◌≡◌, true, false, ◌≤◌, length};
 ghost use Rattle.stream.specs.Feed.{Reached};
 ghost use Rattle.turns.specs.Led.{Begun};
 
+use std::io::{Stdin, Stdout};
 use stream::{Feed, feed_piece, start};
 use transfer::{read_some, write_text};
 
@@ -18,17 +19,17 @@ pub struct Turn {
 }
 
 // Writes a text, or drops it in a program that writes no answers.
-fn hand_over(text: &[u8], writes: bool) -> bool
+fn hand_over(output: Stdout, text: &[u8], writes: bool) -> bool
     ensures { writes ≡ false → result ≡ true }
 {
     if writes {
-        return write_text(text);
+        return write_text(output, text);
     }
     true
 }
 
 // Answers a piece, a buffer of text at a time, and stops at a write that fails.
-fn answer_piece(f: Feed, store: &mut [u64], piece: &[u8], out: &mut [u8], writes: bool) -> Turn
+fn answer_piece(output: Stdout, f: Feed, store: &mut [u64], piece: &[u8], out: &mut [u8], writes: bool) -> Turn
     requires { (length piece.now ≤ 65536) × (length out.old ≡ 65536) }
     ensures { Begun f store.old piece.now result.feed store.new result.written × (writes ≡ false → result.written ≡ true) }
 {
@@ -38,7 +39,7 @@ fn answer_piece(f: Feed, store: &mut [u64], piece: &[u8], out: &mut [u8], writes
         g.at = 0;
         g = feed_piece(g, store, &piece[from..], out);
         let at = g.at;
-        if !hand_over(&out[..at], writes) {
+        if !hand_over(output, &out[..at], writes) {
             return Turn {
                 feed: g,
                 written: false,
@@ -54,7 +55,7 @@ fn answer_piece(f: Feed, store: &mut [u64], piece: &[u8], out: &mut [u8], writes
 
 // Answers piece after piece, until the input ends or a write fails: what was answered is some input, from its start. Where the answers are
 // not to be written, they are dropped.
-pub fn run(store: &mut [u64], writes: bool) -> Turn
+pub fn run(input: Stdin, output: Stdout, store: &mut [u64], writes: bool) -> Turn
     ensures { Reached store.old result.feed store.new × (writes ≡ false → result.written ≡ true) }
 {
     let mut piece = [0u8; 65536];
@@ -62,14 +63,14 @@ pub fn run(store: &mut [u64], writes: bool) -> Turn
     let mut g = start();
     let mut turns = u64::MAX;
     while turns > 0 {
-        let n = read_some(&mut piece);
+        let n = read_some(input, &mut piece);
         if n == 0 {
             return Turn {
                 feed: g,
                 written: true,
             };
         }
-        let t = answer_piece(g, store, &piece[..n], &mut out, writes);
+        let t = answer_piece(output, g, store, &piece[..n], &mut out, writes);
         if t.written {
             let h = t.feed;
             g = h;
