@@ -29,7 +29,14 @@ fn hand_over(output: Stdout, text: &[u8], writes: bool) -> bool
 }
 
 // Answers a piece, a buffer of text at a time, and stops at a write that fails.
-fn answer_piece(output: Stdout, f: Feed, store: &mut [u64], piece: &[u8], out: &mut [u8], writes: bool) -> Turn
+fn answer_piece(
+    output: Stdout,
+    f: Feed,
+    store: &mut [u64],
+    piece: &[u8],
+    out: &mut [u8],
+    writes: bool,
+) -> Turn
     requires { (length piece.now ≤ 65536) × (length out.old ≡ 65536) }
     ensures { Begun f store.old piece.now result.feed store.new result.written × (writes ≡ false → result.written ≡ true) }
 {
