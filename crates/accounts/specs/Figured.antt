@@ -6,7 +6,8 @@ use Rattle.text.specs.Decimal.{decimal, digits_in}
 use Rattle.stream.specs.Run.{started}
 use Rattle.ending.specs.Behind.{table_behind}
 use Rattle.ending.specs.Before.{NoBoot, unbooted_behind}
-use Rattle.ending.specs.Ledger.{ledger_behind, figure_behind}
+use Rattle.ending.specs.Ledger.{ledger_behind}
+use Rattle.ending.proofs.Figure.{figure_behind}
 use Rattle.ending.specs.Printed.{printed_for}
 use Rattle.figures.specs.Lines.{figure_line, figure_lines}
 

@@ -1,6 +1,6 @@
 -- The ledger of an account along an input, with any boots in it: document 02, T-05. What the figure of the account is made of.
-use Rattle.std.specs.Prelude.{ℕ, ◌+◌, ◌<◌, ◌≡◌, refl, Bool, true, false, cond, eqb}
-use mathlib.Core.List.{List, [], ◌∷◌, foldl}
+use Rattle.std.specs.Prelude.{ℕ, ◌+◌, ◌≡◌, refl, true, cond, eqb}
+use mathlib.Core.List.{List, [], ◌∷◌}
 use Rattle.std.proofs.Common.{arith, ne_eqb}
 use Rattle.state.specs.Pages.{pages_of}
 use Rattle.calls.specs.Answers.{refusal_number, number_of}
@@ -16,13 +16,11 @@ use Rattle.calls.specs.declared.Answer.TheVariants.{Done, Refused}
 use Rattle.runs.specs.Ledger.{new_pages, gone_pages, granted}
 use Rattle.runs.specs.Laws.Figure.{step_figure}
 use Rattle.runs.specs.Laws.Ledger.{boot_figure}
-use Rattle.runs.specs.Laws.Unbooted.{empty_unbooted}
 use Rattle.soundness.specs.Sound.{sound}
 use Rattle.lines.specs.Grammar.{line_of}
 use Rattle.lines.specs.Reading.{Reading, answered, boot_by, call_by}
 use Rattle.replies.specs.Reply.{reply, state_after}
-use Rattle.stream.specs.Run.{Progress, line_done, with_line, on_byte_by, extended, on_byte, started}
-use Rattle.ending.specs.Behind.{behind, table_behind}
+use Rattle.stream.specs.Run.{Progress, on_byte, started}
 
 -- since the last granted boot: the pages that it and the granted CRs put on the account, and those that the granted DLs took off
 pub record Ledger : Type 0 where
