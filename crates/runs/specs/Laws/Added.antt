@@ -33,7 +33,7 @@ use Rattle.calls.specs.Rules.{late, view, changes}
 use Rattle.calls.specs.Step.{step}
 use Rattle.calls.specs.Laws.Passed.{Passes, Refuses, Does, step_cases}
 use Rattle.calls.specs.Laws.Searched.{was_granted}
-use Rattle.calls.specs.Laws.Locks.{whole_passes}
+use Rattle.calls.proofs.Locks.{whole_passes}
 use Rattle.calls.specs.Laws.Fit.{create_range}
 use Rattle.calls.specs.declared.Call.{Call}
 use Rattle.calls.specs.declared.Call.TheVariants.{OnStore, OnObject, OnDomain}

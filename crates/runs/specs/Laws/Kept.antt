@@ -13,7 +13,7 @@ use Rattle.calls.specs.Changes.{apply_all}
 use Rattle.calls.specs.Rules.{view, changes}
 use Rattle.calls.specs.Runs.{Event, result_of}
 use Rattle.calls.specs.Laws.Passed.{Passes, Refuses, Does, step_cases}
-use Rattle.calls.specs.Laws.Locks.{whole_passes}
+use Rattle.calls.proofs.Locks.{whole_passes}
 use Rattle.calls.specs.declared.Call.{Call}
 use Rattle.calls.specs.declared.Call.TheVariants.{OnStore, OnObject, OnDomain}
 use Rattle.calls.specs.declared.DomainCall.TheVariants.{Insert, Remove, Get, Lock, PdxCall, PdxReturn}

@@ -1,0 +1,3 @@
+-- The laws of the calls that rest on a definition which an edit in must-fail/ changes.
+pub mod Locks
+pub mod Lookup
