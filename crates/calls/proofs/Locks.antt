@@ -21,7 +21,8 @@ use Rattle.calls.specs.Rules.{unlocked, wanted, early, late, checks, view, chang
 use Rattle.calls.specs.Step.{step, world, world_of}
 use Rattle.calls.specs.Authority.{answered, Comes}
 use Rattle.calls.specs.Locks.{whole_stops, slots_stop, locks_stop}
-use Rattle.calls.specs.Laws.Order.{all_checks, AllHold, late_ascends}
+use Rattle.calls.specs.Laws.Order.{all_checks, AllHold}
+use Rattle.calls.proofs.Order.{late_ascends}
 use Rattle.calls.specs.Laws.Levels.{number, step_number, answers_level, to_five, six, comes_hold}
 use Rattle.calls.specs.Laws.Passed.{Passes, Refuses, Does, step_cases}
 use Rattle.calls.specs.Laws.Sound.{step_sound}

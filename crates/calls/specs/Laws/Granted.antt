@@ -1,4 +1,5 @@
 -- DEMAND 2 at the door: which answers a call gets by the rights that it wants and the capability that it presents.
+-- Which calls are answered 7 is in proofs/Granted.antt.
 use Rattle.std.specs.Prelude.{ℕ, List, [], ◌++◌, ◌↔◌}
 use Rattle.std.proofs.Math.Path.{◌≡◌, refl}
 use Rattle.std.proofs.Common.{sym, ◌∙◌, true≢false}
@@ -6,7 +7,7 @@ use Rattle.std.proofs.Math.Bool.{true}
 use mathlib.Core.Logic.Iff
 use Rattle.std.proofs.Math.Option.{Option, none, some}
 use native.Mathlib.Omega.{arith}
-use Rattle.rights.specs.Modes.{read, write, execute, destroy, pdx, owner}
+use Rattle.rights.specs.Modes.{read, write, execute, destroy}
 use Rattle.state.specs.Places.{domain_at}
 use Rattle.clists.specs.Clist.{live}
 use Rattle.judge.specs.Judged.{judged}
@@ -16,37 +17,34 @@ use Rattle.judge.specs.declared.Target.TheVariants.{Address, Base}
 use Rattle.judge.specs.declared.Judgement.{Judgement}
 use Rattle.judge.specs.declared.Judgement.TheVariants.{Granted, Refused}
 use Rattle.calls.specs.View.{World, Want, nothing, rights, View, Check, search, found_by, passes, is_some}
-use Rattle.calls.specs.Changes.{capability}
 use Rattle.calls.specs.Rules.{rule, wanted, presented, early, granted_check, presented_check, late, checks, view}
-use Rattle.calls.specs.Authority.{answered, Reaches, GrantableTo, WantGrantable, Authorised, DoneWhen, SevenUnless}
-use Rattle.calls.specs.Laws.Order.{AllHold, rest_ascends, done_hold}
-use Rattle.calls.specs.Laws.Levels.{all_append, Level, answers_level, to_five, six, comes_hold}
+use Rattle.calls.specs.Authority.{answered, Reaches, GrantableTo, WantGrantable, Authorised, DoneWhen}
+use Rattle.calls.specs.Laws.Order.{AllHold, done_hold}
+use Rattle.calls.specs.Laws.Levels.{all_append, Level, to_five, six, comes_hold}
 use Rattle.calls.specs.declared.Call.{Call}
-use Rattle.calls.specs.declared.Call.TheVariants.{OnStore, OnObject, OnDomain}
+use Rattle.calls.specs.declared.Call.TheVariants.{OnStore, OnObject}
 use Rattle.calls.specs.declared.Access.TheVariants.{Read, Write, Execute, Lookup}
-use Rattle.calls.specs.declared.ObjectCall.TheVariants.{Delete, AddPassword, DropPassword, Register}
-use Rattle.calls.specs.declared.DomainCall.TheVariants.{Insert, PdxCall}
+use Rattle.calls.specs.declared.ObjectCall.TheVariants.{Delete}
 use Rattle.calls.specs.declared.Presented.{Presented}
-use Rattle.calls.specs.declared.Entries.{Entries}
 use Rattle.calls.specs.declared.Refusal.TheVariants.{NotGranted}
 
 module _ (w : World) (d : ℕ) (c : Call) where
   -- checks 2 to 6, and those of number 7
-  abbrev front : List Check
+  abbrev pub front : List Check
   front = to_five w d c ++ six w d c
 
-  abbrev sevens : List Check
+  abbrev pub sevens : List Check
   sevens = granted_check (wanted c) (view judged w d c) ++ presented_check (presented c) (view judged w d c)
 
   abbrev pub later : List Check
   later = (rule c).rest d (view judged w d c)
 
-  front_hold : AllHold front ↔ Reaches w d c
+  pub front_hold : AllHold front ↔ Reaches w d c
   front_hold =
       Iff.trans (all_append (to_five w d c) (six w d c))
       (Iff.trans (Iff.and (comes_hold w d c) Iff.rfl) (λ h. record { comes = h.0; unlocks = h.1.0 }, λ r. (r.comes, (r.unlocks, tt))))
 
-  sevens_hold : AllHold sevens ↔ Authorised w d c
+  pub sevens_hold : AllHold sevens ↔ Authorised w d c
   unfolding view
   sevens_hold =
       Iff.trans (all_append (granted_check (wanted c) (view judged w d c)) _)
@@ -69,7 +67,7 @@ module _ (w : World) (d : ℕ) (c : Call) where
       presented_hold none v e = (λ h. refl, λ h. tt)
       presented_hold (some l) v e = (λ h. sym e ∙ h.0, λ h. (e ∙ h, tt))
 
-  sevens_level : Level NotGranted sevens
+  pub sevens_level : Level NotGranted sevens
   sevens_level = go (wanted c) (presented c)
     where
       go : (want : Want) (p : Option Presented) → Level NotGranted (granted_check want (view judged w d c) ++ presented_check p (view judged w d c))
@@ -78,25 +76,16 @@ module _ (w : World) (d : ℕ) (c : Call) where
       go (rights target r) none = (refl, tt)
       go (rights target r) (some l) = (refl, (refl, tt))
 
-  -- EVERY CALL is done exactly where it comes to be judged, is authorised, and passes the checks from 8 on;
+  -- EVERY CALL is done exactly where it comes to be judged, is authorised, and passes the checks from 8 on.
   pub answers_done : answered w d c ≡ 0 ↔ (Reaches w d c × (Authorised w d c × AllHold later))
   unfolding checks early late view
   answers_done =
       Iff.trans (done_hold w d c)
       (Iff.trans (all_append front (sevens ++ later)) (Iff.and front_hold (Iff.trans (all_append sevens later) (Iff.and sevens_hold Iff.rfl))))
 
-  -- it is answered 7 exactly where it comes to be judged and is not authorised.
-  pub answers_seven : answered w d c ≡ 7 ↔ (Reaches w d c × (Authorised w d c → ⊥))
-  unfolding checks early late view
-  answers_seven =
-      Iff.trans
-      (answers_level w d c NotGranted front sevens later refl (omega arith, (omega arith, (omega arith, (omega arith, (omega arith, tt))))) sevens_level
-      (rest_ascends d c (view judged w d c)))
-      (Iff.and front_hold (Iff.not sevens_hold))
-
 module _ (w : World) (d : ℕ) where
   -- a call that wants rights and presents nothing is authorised exactly where they are grantable
-  alone : (c : Call) {target : Target} {r : ℕ} → wanted c ≡ rights target r → presented c ≡ none → Authorised w d c ↔ GrantableTo w d target r
+  pub alone : (c : Call) {target : Target} {r : ℕ} → wanted c ≡ rights target r → presented c ≡ none → Authorised w d c ↔ GrantableTo w d target r
   alone c e n = (λ x. rw e at x.grantable, λ g. record { grantable = rw e g; passing = rw n refl })
 
   -- such a call, where it makes no checks from 8 on, is done exactly so
@@ -104,11 +93,6 @@ module _ (w : World) (d : ℕ) where
       → DoneWhen w d c (GrantableTo w d target r)
   granted_done c e n z =
       Iff.trans (answers_done w d c) (Iff.and Iff.rfl (Iff.trans (λ h. h.0, λ x. (x, rw z tt)) (alone c e n)))
-
-  -- and such a call, with or without these checks, is answered 7 exactly where they are not grantable
-  pub ungranted_seven : (c : Call) {target : Target} {r : ℕ} → wanted c ≡ rights target r → presented c ≡ none
-      → SevenUnless w d c (GrantableTo w d target r)
-  ungranted_seven c e n = Iff.trans (answers_seven w d c) (Iff.and Iff.rfl (Iff.not (alone c e n)))
 
   -- RD, WR, EX, LK and DL
   pub read_done : (a : ℕ) → DoneWhen w d (OnStore (Read a)) (GrantableTo w d (Address a) read)
@@ -130,29 +114,3 @@ module _ (w : World) (d : ℕ) where
   pub delete_done : (b : ℕ) → DoneWhen w d (OnObject (Delete b)) (GrantableTo w d (Base b) destroy)
   unfolding rule
   delete_done b = granted_done (OnObject (Delete b)) refl refl refl
-
-  -- AP, DP and CA
-  pub add_seven : (b k m : ℕ) → SevenUnless w d (OnObject (AddPassword b k m)) (GrantableTo w d (Base b) owner)
-  unfolding rule
-  add_seven b k m = ungranted_seven (OnObject (AddPassword b k m)) refl refl
-
-  pub drop_seven : (b k : ℕ) → SevenUnless w d (OnObject (DropPassword b k)) (GrantableTo w d (Base b) owner)
-  unfolding rule
-  drop_seven b k = ungranted_seven (OnObject (DropPassword b k)) refl refl
-
-  pub call_seven : (a ch : ℕ) → SevenUnless w d (OnDomain (PdxCall a ch)) (GrantableTo w d (Address a) pdx)
-  unfolding rule
-  call_seven a ch = ungranted_seven (OnDomain (PdxCall a ch)) refl refl
-
-  -- RG and IN, which present a Clist capability
-  pub register_seven : (b k : ℕ) (l : Presented) (es : Entries)
-      → SevenUnless w d (OnObject (Register b k l es)) (GrantableTo w d (Base b) owner × (live w.state.table (capability l) ≡ true))
-  unfolding rule
-  register_seven b k l es =
-      Iff.trans (answers_seven w d _)
-      (Iff.and Iff.rfl (Iff.not (λ x. (x.grantable, x.passing), λ h. record { grantable = h.0; passing = h.1 })))
-
-  pub insert_seven : (i : ℕ) (l : Presented) → SevenUnless w d (OnDomain (Insert i l)) (live w.state.table (capability l) ≡ true)
-  unfolding rule
-  insert_seven i l =
-      Iff.trans (answers_seven w d _) (Iff.and Iff.rfl (Iff.not (λ x. x.passing, λ h. record { grantable = tt; passing = h })))

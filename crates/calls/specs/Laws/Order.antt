@@ -1,5 +1,5 @@
 -- The order of the checks: document 01, "In checking order", with 14 and 15 behind 9 (document 02, T-05). The places never fall, and the first
--- check that fails answers.
+-- check that fails answers. What follows for whole lists of checks stands in proofs/Order.antt.
 use Rattle.std.specs.Prelude.{ℕ, zero, suc, ◌<◌, ◌≤◌, ◌≡◌, refl, Bool, true, false, ◌&&◌, List, [], ◌∷◌, ◌++◌, ◌↔◌, leb}
 use Rattle.std.proofs.Common.{sym, ap, subst, ◌∙◌, true≢false, arith, leb-true, le-leb}
 use mathlib.Core.Logic.Iff
@@ -7,15 +7,14 @@ use Rattle.std.proofs.Math.Option.{Option, none, some}
 use Rattle.bounded.specs.Bools.{and_left, and_right, and_both}
 use Rattle.judge.specs.Judged.{judged}
 use Rattle.calls.specs.Answers.{refusal_number, refusal_place, refusals, numbered, number_of}
-use Rattle.calls.specs.View.{World, Want, nothing, rights, View, Check, check, first_failing}
-use Rattle.calls.specs.Rules.{rule, wanted, presented, granted_check, presented_check, view, early, late, checks}
+use Rattle.calls.specs.View.{World, View, Check, check, first_failing}
+use Rattle.calls.specs.Rules.{rule, view, checks}
 use Rattle.calls.specs.Step.{step_by, step, concluded, store_check, sound_check}
 use Rattle.calls.specs.declared.Call.{Call}
 use Rattle.calls.specs.declared.Call.TheVariants.{OnStore, OnObject, OnDomain}
 use Rattle.calls.specs.declared.Access.TheVariants.{Read, Write, Execute, Lookup}
 use Rattle.calls.specs.declared.ObjectCall.TheVariants.{Create, Delete, AddPassword, DropPassword, Register}
 use Rattle.calls.specs.declared.DomainCall.TheVariants.{Insert, Remove, Get, Lock, PdxCall, PdxReturn}
-use Rattle.calls.specs.declared.Presented.{Presented}
 use Rattle.calls.specs.declared.Refusal.{Refusal}
 use Rattle.calls.specs.declared.Refusal.TheVariants.{StoreLength, Unsound, NoDomain, OutOfRange, Locked, NotGranted, NotEntry, NoRun, NotPermitted, LimitPassed, HasPassword, Full, Missing}
 use Rattle.calls.specs.declared.Answer.{Answer}
@@ -56,23 +55,6 @@ rest_ascends d (OnDomain Get) v = refl
 rest_ascends d (OnDomain (Lock i)) v = refl
 rest_ascends d (OnDomain (PdxCall a ch)) v = refl
 rest_ascends d (OnDomain PdxReturn) v = refl
-
--- from check 7 on the places never fall either
-pub late_ascends : (d : ℕ) (c : Call) (v : View) → ascending (refusal_place NotGranted) (late d c v) ≡ true
-unfolding ascending late
-late_ascends d c v = from_seven (wanted c) (presented c) ((rule c).rest d v) (rest_ascends d c v)
-  where
-    from_seven : (want : Want) (presents : Option Presented) (cs : List Check) → ascending (suc (refusal_place NotGranted)) cs ≡ true
-        → ascending (refusal_place NotGranted) (granted_check want v ++ presented_check presents v ++ cs) ≡ true
-    from_seven nothing none cs h = ascends_from (refusal_place NotGranted) (suc (refusal_place NotGranted)) cs (omega arith) h
-    from_seven nothing (some l) cs h = ascends_from (refusal_place NotGranted) (suc (refusal_place NotGranted)) cs (omega arith) h
-    from_seven (rights target r) none cs h = ascends_from (refusal_place NotGranted) (suc (refusal_place NotGranted)) cs (omega arith) h
-    from_seven (rights target r) (some l) cs h = ascends_from (refusal_place NotGranted) (suc (refusal_place NotGranted)) cs (omega arith) h
-
--- THE CHECKS COME IN THE PAPER'S ORDER, whatever is read
-pub checks_ascend : (w : World) (d : ℕ) (c : Call) (v : View) → ascending (refusal_place StoreLength) (store_check w ∷ sound_check w ∷ checks d c v) ≡ true
-unfolding ascending checks early
-checks_ascend w d c v = ascends_from (refusal_place Locked) (refusal_place NotGranted) (late d c v) (omega arith) (late_ascends d c v)
 
 -- each check of the list holds
 abbrev pub AllHold : List Check → Type 0
@@ -192,7 +174,7 @@ module _ (w : World) (d : ℕ) (c : Call) where
   answering : Answering (λ o. (concluded o w d c (view judged w d c)).outcome.answer)
   answering = record { value = _; done = refl; refused = λ r. refl }
 
-  step_refused : (why : Refusal) → (step w d c).outcome.answer ≡ Refused why ↔ first_failing (all_checks w d c) ≡ some why
+  pub step_refused : (why : Refusal) → (step w d c).outcome.answer ≡ Refused why ↔ first_failing (all_checks w d c) ≡ some why
   unfolding step_by
   step_refused why = answers_refused answering (first_failing (all_checks w d c)) why
 
@@ -204,7 +186,3 @@ module _ (w : World) (d : ℕ) (c : Call) where
   pub done_hold : number_of (step w d c).outcome.answer ≡ 0 ↔ AllHold (all_checks w d c)
   unfolding step_by
   done_hold = Iff.trans (answers_done answering (first_failing (all_checks w d c))) (none_fails (all_checks w d c))
-
-  -- THE EARLIEST PLACE ANSWERS: no check that fails has an earlier one
-  pub earliest_answers : (why : Refusal) → (step w d c).outcome.answer ≡ Refused why → FailFrom (refusal_place why) (all_checks w d c)
-  earliest_answers why h = first_earliest (refusal_place StoreLength) (all_checks w d c) why (checks_ascend w d c (view judged w d c)) ((step_refused why).0 h)
