@@ -24,8 +24,9 @@ use Rattle.calls.specs.Locks.{whole_stops, slots_stop, locks_stop}
 use Rattle.calls.specs.Laws.Order.{all_checks, AllHold}
 use Rattle.calls.proofs.Order.{late_ascends}
 use Rattle.calls.specs.Laws.Levels.{number, step_number, answers_level, to_five, six, comes_hold}
-use Rattle.calls.specs.Laws.Passed.{Passes, Refuses, Does, step_cases}
-use Rattle.calls.specs.Laws.Sound.{step_sound}
+use Rattle.calls.specs.Laws.Passed.{Passes, Refuses, Does}
+use Rattle.calls.proofs.Passed.{step_cases}
+use Rattle.calls.proofs.Sound.{step_sound}
 use Rattle.calls.specs.declared.Call.{Call}
 use Rattle.calls.specs.declared.Call.TheVariants.{OnStore, OnObject, OnDomain}
 use Rattle.calls.specs.declared.Access.TheVariants.{Read, Write, Execute, Lookup}

@@ -14,7 +14,8 @@ use Rattle.calls.specs.Rules.{rule, view}
 use Rattle.calls.specs.Step.{step}
 use Rattle.calls.specs.Authority.{answered, Reaches, GrantableTo}
 use Rattle.calls.specs.Laws.Order.{refusal_number_lem}
-use Rattle.calls.specs.Laws.Passed.{Refuses, Does, step_cases}
+use Rattle.calls.specs.Laws.Passed.{Refuses, Does}
+use Rattle.calls.proofs.Passed.{step_cases}
 use Rattle.calls.specs.Laws.Granted.{lookup_done}
 use Rattle.calls.specs.declared.Call.{Call}
 use Rattle.calls.specs.declared.Call.TheVariants.{OnStore}

@@ -20,7 +20,7 @@ use Rattle.calls.specs.Rules.{in_range, unlocked, early, view, late, checks, tou
 use Rattle.calls.specs.Step.{unchecked_by, step, unchecked, world_of, answer_of}
 use Rattle.calls.specs.Boot.{home_estate, home_domain, boot_accounts, boot_state, home_pair, boot_words, homes_ok, limits_ok, sets_ok, home_pages, room_ok, plan_ok, boot}
 use Rattle.calls.specs.Laws.Unchecked.{sound_unchecked}
-use Rattle.calls.specs.Laws.Sound.{unchecked_sound}
+use Rattle.calls.proofs.Sound.{unchecked_sound}
 use Rattle.calls.specs.declared.Call.{Call}
 
 -- the numbers of a boot with limits of 128, sets of 15 and account 0 throughout (document 02, T-05)

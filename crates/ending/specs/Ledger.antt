@@ -9,7 +9,7 @@ use Rattle.calls.specs.Step.{step}
 use Rattle.calls.specs.Runs.{Event}
 use Rattle.calls.specs.Boot.{home_pages, boot}
 use Rattle.calls.specs.Laws.Order.{refusal_number_lem}
-use Rattle.calls.specs.Laws.Sound.{step_sound}
+use Rattle.calls.proofs.Sound.{step_sound}
 use Rattle.calls.specs.Laws.Booted.{boot_done, boot_sound}
 use Rattle.calls.specs.declared.Answer.{Answer}
 use Rattle.calls.specs.declared.Answer.TheVariants.{Done, Refused}

@@ -24,7 +24,7 @@ use Rattle.calls.specs.Step.{step}
 use Rattle.calls.specs.Boot.{account_of, set_of, home_estate, boot_accounts, boot_state, plan_ok}
 use Rattle.calls.specs.Laws.Plan.{plan_bounds}
 use Rattle.calls.specs.Laws.Passed.{Passes}
-use Rattle.calls.specs.Laws.Sound.{step_accounts}
+use Rattle.calls.proofs.Sound.{step_accounts}
 use Rattle.calls.specs.declared.Call.{Call}
 use Rattle.calls.specs.declared.Call.TheVariants.{OnStore, OnObject, OnDomain}
 use Rattle.calls.specs.declared.Access.TheVariants.{Read, Write, Execute, Lookup}

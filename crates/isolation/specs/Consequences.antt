@@ -24,7 +24,7 @@ use Rattle.calls.specs.Boot.{home_of, set_of}
 use Rattle.calls.specs.Runs.{Event, result_of}
 use Rattle.calls.specs.Laws.Order.{done_hold}
 use Rattle.calls.specs.Laws.Booted.{boot_sound}
-use Rattle.calls.specs.Laws.Sound.{step_sound}
+use Rattle.calls.proofs.Sound.{step_sound}
 use Rattle.calls.specs.declared.Call.{Call}
 use Rattle.calls.specs.declared.Presented.{Presented}
 use Rattle.isolation.specs.Group.{Group, member}

@@ -24,7 +24,8 @@ use Rattle.calls.specs.View.{rights, World, search, found_by, object_of, estate_
 use Rattle.calls.specs.Changes.{Change, word, zeros, estate, domain, apply_one, apply_all}
 use Rattle.calls.specs.Rules.{view, changes}
 use Rattle.calls.specs.Step.{step}
-use Rattle.calls.specs.Laws.Passed.{Passes, Refuses, Does, step_cases}
+use Rattle.calls.specs.Laws.Passed.{Passes, Refuses, Does}
+use Rattle.calls.proofs.Passed.{step_cases}
 use Rattle.calls.specs.declared.Call.{Call}
 
 -- What holds of the value put in, and at the place before, holds at the place afterwards.

@@ -11,7 +11,7 @@ use Rattle.calls.specs.View.{World}
 use Rattle.calls.specs.Step.{world_of}
 use Rattle.calls.specs.Runs.{Event, result_of}
 use Rattle.calls.specs.Laws.Booted.{boot_sound}
-use Rattle.calls.specs.Laws.Sound.{step_sound}
+use Rattle.calls.proofs.Sound.{step_sound}
 use Rattle.isolation.specs.Group.{Group}
 use Rattle.isolation.specs.Runs.{Run, start_of}
 use Rattle.isolation.specs.Premises.{CallPremise, Along, Premises}

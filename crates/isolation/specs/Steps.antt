@@ -13,9 +13,10 @@ use Rattle.calls.specs.Rules.{early, view, late, checks, touched, changes}
 use Rattle.calls.specs.Step.{concluded, store_check, unchecked_by, unchecked, world_of, step}
 use Rattle.calls.specs.Step.{answer_of}
 use Rattle.calls.specs.Runs.{Event, result_of}
-use Rattle.calls.specs.Laws.Passed.{Passes, Does, step_cases}
+use Rattle.calls.specs.Laws.Passed.{Passes, Does}
+use Rattle.calls.proofs.Passed.{step_cases}
 use Rattle.calls.specs.Laws.Unchecked.{sound_unchecked}
-use Rattle.calls.specs.Laws.Sound.{step_sound, words_kept}
+use Rattle.calls.proofs.Sound.{step_sound, words_kept}
 use Rattle.calls.specs.declared.Call.{Call}
 use Rattle.calls.specs.declared.Call.TheVariants.{OnStore, OnObject, OnDomain}
 use Rattle.calls.specs.declared.Access.TheVariants.{Read, Write, Execute, Lookup}

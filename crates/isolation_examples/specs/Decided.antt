@@ -18,7 +18,7 @@ use Rattle.calls.specs.Step.{unchecked, world_of}
 use Rattle.calls.specs.Boot.{home_of, set_of}
 use Rattle.calls.specs.Runs.{Event, result_of, final}
 use Rattle.calls.specs.Laws.Unchecked.{sound_unchecked}
-use Rattle.calls.specs.Laws.Sound.{unchecked_sound}
+use Rattle.calls.proofs.Sound.{unchecked_sound}
 use Rattle.calls.specs.Laws.Plan.{in_set_account}
 use Rattle.calls.specs.Laws.Booted.{boot_sound}
 use Rattle.calls.specs.declared.Presented.{Presented}

@@ -9,7 +9,7 @@ use Rattle.calls.specs.View.{World}
 use Rattle.calls.specs.Step.{step, unchecked}
 use Rattle.calls.specs.Boot.{boot}
 use Rattle.calls.specs.Laws.Unchecked.{sound_unchecked}
-use Rattle.calls.specs.Laws.Sound.{step_sound}
+use Rattle.calls.proofs.Sound.{step_sound}
 use Rattle.calls.specs.Laws.Booted.{boot_sound}
 use Rattle.calls.specs.declared.Answer.{Answer}
 use Rattle.calls.specs.declared.Answer.TheVariants.{Done, Refused}

@@ -4,7 +4,7 @@ use native.Mathlib.Nat.{le_of_eq}
 use native.Mathlib.Omega.{arith}
 use borrow.Author.Tests.{le-ltb, lt-ltb}
 use Rattle.bounded.specs.Bools.{and_both}
-use Rattle.calls.specs.Laws.Parts.{answers_length, answers_range}
+use Rattle.calls.proofs.Parts.{answers_length, answers_range}
 use Rattle.calls.specs.declared.Access.TheVariants.{Lookup}
 use Rattle.access_calls.specs.Laws.{refused, granted, rights_out}
 use Rattle.access_calls.proofs.apd_lookup.Goals as goal

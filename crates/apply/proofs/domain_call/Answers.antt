@@ -1,5 +1,5 @@
 use borrow.Author.Rules.{rules}
-use Rattle.calls.specs.Laws.Parts.{moves_length}
+use Rattle.calls.proofs.Parts.{moves_length}
 use Rattle.apply.proofs.domain_call.Goals as goal
 
 pub returns-then-store-ne-STORE_WORDS : goal.returns-then-store-ne-STORE_WORDS

@@ -17,7 +17,7 @@ use Rattle.calls.specs.Changes.{zeroed, apply_all}
 use Rattle.calls.specs.Rule.{is_page, is_account}
 use Rattle.calls.specs.Rules.{rule, in_range, changes, view}
 use Rattle.calls.specs.Step.{step}
-use Rattle.calls.specs.Laws.Passed.{step_cases}
+use Rattle.calls.proofs.Passed.{step_cases}
 use Rattle.calls.specs.declared.Call.{Call}
 use Rattle.calls.specs.declared.Call.TheVariants.{OnStore, OnObject, OnDomain}
 use Rattle.calls.specs.declared.Access.TheVariants.{Read, Write, Execute, Lookup}

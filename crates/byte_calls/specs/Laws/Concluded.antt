@@ -16,7 +16,7 @@ use Rattle.calls.specs.Answers.{refusal_number, values_from}
 use Rattle.calls.specs.Boot.{boot}
 use Rattle.calls.specs.Step.{Result, world, result_of, step, unchecked}
 use Rattle.calls.specs.Laws.Unchecked.{sound_unchecked}
-use Rattle.calls.specs.Laws.Sound.{words_kept}
+use Rattle.calls.proofs.Sound.{words_kept}
 use Rattle.calls.specs.declared.Call.{Call}
 use Rattle.calls.specs.declared.Answer.TheVariants.{Done, Refused}
 use Rattle.calls.specs.declared.Outcome.{Outcome}

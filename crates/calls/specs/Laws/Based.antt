@@ -1,6 +1,6 @@
 -- A call on the object with a base: what its code hands back behind checks 5 and 6.
 use Rattle.std.specs.Prelude.{ℕ, ◌/◌, ◌≡◌, refl, true, List, [], ◌∷◌, ltb}
-use Rattle.std.proofs.Math.Option.{Option, none, some}
+use Rattle.std.proofs.Math.Option.{Option, none}
 use Rattle.std.proofs.Common.{arith, ltb-true}
 use Rattle.state.specs.Places.{no_accounts}
 use Rattle.state.specs.declared.Estate.{Estate}
@@ -17,13 +17,12 @@ use Rattle.calls.specs.Answers.{no_fields}
 use Rattle.calls.specs.Changes.{estate}
 use Rattle.calls.specs.Rules.{rule, in_range, unlocked, wanted, presented, value, fields, late, changes}
 use Rattle.calls.specs.Step.{world}
-use Rattle.calls.specs.Parts.{Entered, unaltered, altered, Alters}
-use Rattle.calls.specs.Laws.Parts.{parts, view_of, alters_late, alters_done}
+use Rattle.calls.specs.Parts.{Entered, altered, Alters}
+use Rattle.calls.specs.Laws.Parts.{parts, view_of, alters_done}
 use Rattle.calls.specs.declared.Call.TheVariants.{OnObject}
 use Rattle.calls.specs.declared.ObjectCall.{ObjectCall}
 use Rattle.calls.specs.declared.ObjectCall.TheVariants.{Create, Delete, AddPassword, DropPassword, Register}
 use Rattle.calls.specs.declared.Altered.{Altered}
-use Rattle.calls.specs.declared.Refusal.{Refusal}
 
 -- of every call on objects: its value is 0, and it has no fields
 record Plain (c : ObjectCall) : Type 0 where
@@ -50,17 +49,12 @@ pub record Sees (t : Table) (words : List ℕ) (c : ObjectCall) (b : ℕ) (j : J
 module _ (t : Table) (x : Accounts) (d : ℕ) (f : Frame) (words : List ℕ) (c : ObjectCall) {b r : ℕ} {a j : Judgement} (e : Entered words d)
     (w : wanted (OnObject c) ≡ rights (Base b) r) (n : in_range (OnObject c) ≡ true)
     (u : unlocked (OnObject c) f ≡ true) (p : a ≡ judged t words f (Base b) r) (g : a ≡ j) where
-  sees : (m : Domain) → m.active ≡ f → Sees t words c b j (view_of t x words d m (OnObject c))
+  pub sees : (m : Domain) → m.active ≡ f → Sees t words c b j (view_of t x words d m (OnObject c))
   sees m q = record { found = rw (w, q, ← p, g) (told j); live = refl }
     where
       told : (i : Judgement) → found_by (world (parts t x) words) (Base b) i ≡ based t words b i
       told (Granted pair) = refl
       told Refused = refl
-
-  -- refused by the judgement, or behind it
-  pub based_late : {y : Altered} {why : Refusal} → ((v : View) → Sees t words c b j v → first_failing (late d (OnObject c) v) ≡ some why) → y ≡ unaltered t why
-      → Alters t x d f words c y words
-  based_late l h = alters_late t x d f words c e n u (λ m q. l _ (sees m q)) h
 
   -- done: its estate becomes another
   pub based_done : {y : Altered} (z : Estate) → ltb b 128 ≡ true → ((v : View) → Sees t words c b j v → first_failing (late d (OnObject c) v) ≡ none)

@@ -1,44 +1,32 @@
 -- The paper's numbers of what a call hands back, answer by answer: document 01, "The forms we expect", the last sentence.
-use Rattle.std.specs.Prelude.{ℕ, zero, suc, ◌+◌, ◌<◌, ◌≤◌, ◌≡◌, refl, Bool, true, false, cond, List, [], ◌∷◌, ◌⊎◌, ltb, eqb, take}
-use Rattle.std.proofs.Common.{ap, ◌∙◌, inl, inr, arith, lt-ltb, ne_eqb}
+use Rattle.std.specs.Prelude.{ℕ, ◌≡◌, Bool, true, false, List, [], ◌∷◌}
+use Rattle.std.proofs.Common.{ap}
 use Rattle.bounded.specs.Fill.{tabulate}
-use Rattle.state.specs.Places.{empty_state, slot_at, domain_at}
+use Rattle.state.specs.Places.{empty_state, slot_at}
 use Rattle.state.specs.declared.Frame.{Frame}
-use Rattle.soundness.specs.Sound.{sound}
-use Rattle.soundness.specs.Laws.DomainParts.{frame_parts, domain_parts}
-use Rattle.soundness.specs.Laws.StateParts.{state_parts}
-use Rattle.judge.specs.Judged.{judged}
-use Rattle.calls.specs.Answers.{refusal_number, number_of, no_fields, values_of}
-use Rattle.calls.specs.View.{World, View}
-use Rattle.calls.specs.Changes.{flag, frame_fields}
-use Rattle.calls.specs.Rules.{rule, fields, view}
-use Rattle.calls.specs.Step.{Result, world, result_of, answer_of, step}
+use Rattle.calls.specs.Answers.{refusal_number, number_of, values_of}
+use Rattle.calls.specs.View.{World}
+use Rattle.calls.specs.Changes.{flag}
+use Rattle.calls.specs.Rules.{fields}
+use Rattle.calls.specs.Step.{Result, world, result_of, answer_of}
 use Rattle.calls.specs.Boot.{boot}
-use Rattle.calls.specs.Laws.Order.{refusal_number_lem}
-use Rattle.calls.specs.Laws.Passed.{Unchanged, Refuses, Does, refused_changes_nothing, step_cases}
+use Rattle.calls.specs.Laws.Passed.{Unchanged}
 use Rattle.calls.specs.Laws.Booted.{boot_refused, boot_done}
 use Rattle.calls.specs.declared.Call.{Call}
 use Rattle.calls.specs.declared.Call.TheVariants.{OnStore, OnObject, OnDomain}
-use Rattle.calls.specs.declared.Access.TheVariants.{Read, Write, Execute, Lookup}
-use Rattle.calls.specs.declared.ObjectCall.TheVariants.{Create, Delete, AddPassword, DropPassword, Register}
 use Rattle.calls.specs.declared.DomainCall.TheVariants.{Insert, Remove, Get, Lock, PdxCall, PdxReturn}
 use Rattle.calls.specs.declared.Refusal.{Refusal}
-use Rattle.calls.specs.declared.Answer.TheVariants.{Done, Refused}
+use Rattle.calls.specs.declared.Answer.TheVariants.{Refused}
 use Rattle.calls.specs.declared.Outcome.{Outcome}
 
 -- THE NUMBERS OF AN OUTCOME, as `apply` and `boot` promise it, are those of the definition: `step` or `boot`
 pub answer_numbers : (o : Outcome) (words : List ℕ) (r : Result) → result_of o words ≡ r → (number_of o.answer ∷ values_of o) ≡ answer_of r
 answer_numbers o words r h = ap answer_of h
 
-unchanged_numbers : (w : World) (why : Refusal) (r : Result) → Unchanged w why r → answer_of r ≡ refusal_number why ∷ 0 ∷ []
+pub unchanged_numbers : (w : World) (why : Refusal) (r : Result) → Unchanged w why r → answer_of r ≡ refusal_number why ∷ 0 ∷ []
 unchanged_numbers w why r u = rw (u.fields, u.number, u.value)
 
--- REFUSED: the refusal's number, and the value 0
-pub refused_numbers : (w : World) (d : ℕ) (c : Call) (why : Refusal) → (step w d c).outcome.answer ≡ Refused why
-    → answer_of (step w d c) ≡ refusal_number why ∷ 0 ∷ []
-refused_numbers w d c why h = unchanged_numbers w why (step w d c) ((refused_changes_nothing w d c).0 why h)
-
--- BT: the same where it is refused, and else 0 twice
+-- BT: the refusal's number and the value 0 where it is refused, and else 0 twice
 pub boot_refused_numbers : (words : List ℕ) (d : ℕ) (plan : List ℕ) (why : Refusal) → (boot words d plan).outcome.answer ≡ Refused why
     → answer_of (boot words d plan) ≡ refusal_number why ∷ 0 ∷ []
 boot_refused_numbers words d plan why h = unchanged_numbers (world empty_state words) why (boot words d plan) (boot_refused words d plan why h)
@@ -58,59 +46,6 @@ is_get (OnDomain (Lock i)) = false
 is_get (OnDomain (PdxCall a ch)) = false
 is_get (OnDomain PdxReturn) = false
 
--- no other call has fields
-only_get : (c : Call) (v : View) → is_get c ≡ false → fields c v ≡ no_fields
-unfolding rule
-only_get (OnStore (Read a)) v n = refl
-only_get (OnStore (Write a x)) v n = refl
-only_get (OnStore (Execute a)) v n = refl
-only_get (OnStore (Lookup a r)) v n = refl
-only_get (OnObject (Create p k q a)) v n = refl
-only_get (OnObject (Delete b)) v n = refl
-only_get (OnObject (AddPassword b k m)) v n = refl
-only_get (OnObject (DropPassword b k)) v n = refl
-only_get (OnObject (Register b k l es)) v n = refl
-only_get (OnDomain (Insert i l)) v n = refl
-only_get (OnDomain (Remove i)) v n = refl
-only_get (OnDomain Get) v n = let z : ◌≡◌ {A = ℕ} 0 1 = cc in absurd (omega arith)
-only_get (OnDomain (Lock i)) v n = refl
-only_get (OnDomain (PdxCall a ch)) v n = refl
-only_get (OnDomain PdxReturn) v n = refl
-
--- DONE: 0, and the value
-pub done_numbers : (w : World) (d : ℕ) (c : Call) (value : ℕ) → is_get c ≡ false → (step w d c).outcome.answer ≡ Done value
-    → answer_of (step w d c) ≡ 0 ∷ value ∷ []
-done_numbers w d c value n h = go (step_cases w d c)
-  where
-    go : Refuses w (step w d c) ⊎ ((sound w.state ≡ true) × Does w d c (step w d c)) → answer_of (step w d c) ≡ 0 ∷ value ∷ []
-    go (inl (why, e)) = absurd (omega (arith, refusal_number_lem why, ap number_of (rw e at h)))
-    go (inr (_, (_, e))) = rw (h, ap (λ r. r.outcome.fields) e ∙ only_get c (view judged w d c) n)
-
--- the first n places of a longer row, place by place
-cut : (n m : ℕ) (f g : ℕ → ℕ) → n ≤ m → ((k : ℕ) → k < n → f k ≡ g k) → take n (tabulate m f) ≡ tabulate n g
-cut zero m f g l h = refl
-cut (suc n) zero f g l h = absurd (omega arith)
-cut (suc n) (suc m) f g l h = rw (h 0 (omega arith)) (ap (λ t. g 0 ∷ t) (cut n m (λ k. f (suc k)) (λ k. g (suc k)) (omega arith) (λ k u. h (suc k) (omega arith))))
-
--- three fields and n more are told, whatever the value is
-three : (n x y z : ℕ) (xs told : List ℕ) → cond (eqb (3 + n) 0) told (take (3 + n) (x ∷ y ∷ z ∷ xs)) ≡ x ∷ y ∷ z ∷ take n xs
-three n x y z xs told = let more : 3 + n ≡ suc (suc (suc n)) = omega arith in rw (ne_eqb (3 + n) 0 (λ e. omega arith), more)
-
--- A DONE GT: 0, how many slots, how many of them locked, the whole lock as 1 or 0, then the page of each slot
+-- what a done GT answers: 0, how many slots, how many of them locked, the whole lock as 1 or 0, then the page of each slot
 abbrev pub frame_numbers : Frame → List ℕ
 frame_numbers f = f.count ∷ f.locked ∷ flag f.whole ∷ tabulate f.count (λ k. (slot_at f k).page)
-
-pub get_numbers : (w : World) (d value : ℕ) → (step w d (OnDomain Get)).outcome.answer ≡ Done value
-    → answer_of (step w d (OnDomain Get)) ≡ 0 ∷ frame_numbers (domain_at w.state d).active
-unfolding rule view frame_fields
-get_numbers w d value h = go (step_cases w d (OnDomain Get))
-  where
-    go : Refuses w (step w d (OnDomain Get)) ⊎ ((sound w.state ≡ true) × Does w d (OnDomain Get) (step w d (OnDomain Get)))
-        → answer_of (step w d (OnDomain Get)) ≡ 0 ∷ frame_numbers (domain_at w.state d).active
-    go (inl (why, e)) = absurd (omega (arith, refusal_number_lem why, ap number_of (rw e at h)))
-    go (inr (s, (p, e))) =
-        let f = (domain_at w.state d).active in
-        let fits = (frame_parts f (domain_parts _ ((state_parts w.state s).domain d p.domain)).active).fits in
-        let pages = cut f.count 8 (λ k. cond (ltb k f.count) (slot_at f k).page 0) (λ k. (slot_at f k).page) fits (λ k l. rw (lt-ltb k f.count l)) in
-        ap answer_of e
-        ∙ ap (λ t. 0 ∷ t) (three f.count f.count f.locked (flag f.whole) _ _ ∙ ap (λ t. f.count ∷ f.locked ∷ flag f.whole ∷ t) pages)

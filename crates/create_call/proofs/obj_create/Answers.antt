@@ -7,7 +7,8 @@ use Rattle.state.specs.Update.{new_object}
 use Rattle.state.specs.declared.Object.{Object}
 use Rattle.calls.specs.Rules.{rule, unlocked, late, changes}
 use Rattle.calls.specs.Parts.{Entered}
-use Rattle.calls.specs.Laws.Parts.{alters_length, alters_unknown, alters_range, alters_late, alters_done}
+use Rattle.calls.specs.Laws.Parts.{alters_done}
+use Rattle.calls.proofs.Parts.{alters_length, alters_unknown, alters_range, alters_late}
 use Rattle.calls.specs.Laws.Told.{holds, fails}
 use Rattle.calls.specs.declared.Refusal.TheVariants.{NoRun, NotPermitted, LimitPassed, Full}
 use Rattle.create_call.proofs.Ranges.{create_range, create_run}

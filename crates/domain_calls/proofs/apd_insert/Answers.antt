@@ -3,7 +3,8 @@ use mathlib.Core.Path.{◌≡◌}
 use lib.Dec.{ltb}
 use borrow.Author.Tests.{lt-ltb, le-ltb, lt-leb, le-leb}
 use Rattle.calls.specs.Rules.{rule, in_range, unlocked, late, changes}
-use Rattle.calls.specs.Laws.Parts.{moves_range, moves_lock, moves_late, moves_done}
+use Rattle.calls.specs.Laws.Parts.{moves_done}
+use Rattle.calls.proofs.Parts.{moves_range, moves_lock, moves_late}
 use Rattle.calls.specs.Laws.Told.{holds, fails}
 use mathlib.Core.Path.{ap}
 use mathlib.Core.Bool.{not}

@@ -1,7 +1,8 @@
 use mathlib.Core.Path.{refl}
 use borrow.Author.Tests.{lt-ltb, le-ltb, ne_eqb}
 use Rattle.calls.specs.Rules.{rule, in_range, unlocked, late, changes}
-use Rattle.calls.specs.Laws.Parts.{moves_range, moves_late, moves_done}
+use Rattle.calls.specs.Laws.Parts.{moves_done}
+use Rattle.calls.proofs.Parts.{moves_range, moves_late}
 use Rattle.domain_calls.proofs.apd_lock.Goals as goal
 
 pub returns-then-slot-eq255 : goal.returns-then-slot-eq255

@@ -2,8 +2,9 @@ use mathlib.Core.Path.{refl}
 use borrow.Author.Tests.{le-ltb, lt-ltb}
 use borrow.Author.Rules.{rules}
 use Rattle.calls.specs.Rules.{rule, in_range, unlocked, late, changes}
-use Rattle.calls.specs.Laws.Parts.{alters_length, alters_range}
-use Rattle.calls.specs.Laws.Based.{based_late, based_done}
+use Rattle.calls.proofs.Parts.{alters_length, alters_range}
+use Rattle.calls.specs.Laws.Based.{based_done}
+use Rattle.calls.proofs.Based.{based_late}
 use Rattle.object_calls.proofs.obj_delete.Goals as goal
 
 pub returns-then-store-ne-STORE_WORDS : goal.returns-then-store-ne-STORE_WORDS

@@ -5,8 +5,9 @@ use lib.ListN.{length}
 use borrow.Author.Tests.{le-ltb, lt-ltb}
 use borrow.Author.Rules.{rules}
 use Rattle.calls.specs.Rules.{rule, in_range, unlocked, late, changes}
-use Rattle.calls.specs.Laws.Parts.{alters_length, alters_range, alters_lock}
-use Rattle.calls.specs.Laws.Based.{based_late, based_done}
+use Rattle.calls.proofs.Parts.{alters_length, alters_range, alters_lock}
+use Rattle.calls.specs.Laws.Based.{based_done}
+use Rattle.calls.proofs.Based.{based_late}
 use Rattle.calls.specs.Laws.Told.{holds, fails}
 use Rattle.calls.specs.declared.Call.TheVariants.{OnObject}
 use Rattle.calls.specs.declared.ObjectCall.TheVariants.{AddPassword}

@@ -4,7 +4,8 @@ use lib.Dec.{ltb}
 use lib.ListN.{length}
 use borrow.Author.Tests.{lt-ltb, le-ltb}
 use Rattle.calls.specs.Rules.{rule, in_range, unlocked, late, changes}
-use Rattle.calls.specs.Laws.Parts.{moves_length, moves_range, moves_lock, moves_late, moves_done}
+use Rattle.calls.specs.Laws.Parts.{moves_done}
+use Rattle.calls.proofs.Parts.{moves_length, moves_range, moves_lock, moves_late}
 use Rattle.calls.specs.Laws.Told.{holds, fails}
 use Rattle.pdx_calls.proofs.pdx_call.Goals as goal
 

@@ -3,7 +3,8 @@ use native.Mathlib.Nat.{pos_of_ne-zero}
 use lib.Dec.{ltb}
 use borrow.Author.Tests.{lt-ltb}
 use Rattle.calls.specs.Rules.{rule, in_range, unlocked, late, changes}
-use Rattle.calls.specs.Laws.Parts.{moves_late, moves_done}
+use Rattle.calls.specs.Laws.Parts.{moves_done}
+use Rattle.calls.proofs.Parts.{moves_late}
 use Rattle.pdx_calls.proofs.pdx_return.Goals as goal
 
 pub returns-then-m-eq0 : goal.returns-then-m-eq0

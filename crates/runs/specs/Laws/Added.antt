@@ -31,7 +31,8 @@ use Rattle.calls.specs.Arguments.{run_free}
 use Rattle.calls.specs.Changes.{apply_all}
 use Rattle.calls.specs.Rules.{late, view, changes}
 use Rattle.calls.specs.Step.{step}
-use Rattle.calls.specs.Laws.Passed.{Passes, Refuses, Does, step_cases}
+use Rattle.calls.specs.Laws.Passed.{Passes, Refuses, Does}
+use Rattle.calls.proofs.Passed.{step_cases}
 use Rattle.calls.specs.Laws.Searched.{was_granted}
 use Rattle.calls.proofs.Locks.{whole_passes}
 use Rattle.calls.specs.Laws.Fit.{create_range}

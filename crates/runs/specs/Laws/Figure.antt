@@ -22,10 +22,11 @@ use Rattle.calls.specs.Changes.{registration, apply_all}
 use Rattle.calls.specs.Rules.{late, changes, view}
 use Rattle.calls.specs.Runs.{Event, result_of}
 use Rattle.calls.specs.Laws.Order.{refusal_number_lem}
-use Rattle.calls.specs.Laws.Passed.{Passes, Refuses, Does, step_cases}
+use Rattle.calls.specs.Laws.Passed.{Passes, Refuses, Does}
+use Rattle.calls.proofs.Passed.{step_cases}
 use Rattle.calls.specs.Laws.Searched.{was_granted}
 use Rattle.calls.specs.Laws.Fit.{owned, found}
-use Rattle.calls.specs.Laws.Sound.{step_accounts}
+use Rattle.calls.proofs.Sound.{step_accounts}
 use Rattle.calls.specs.declared.Call.{Call}
 use Rattle.calls.specs.declared.Call.TheVariants.{OnStore, OnObject, OnDomain}
 use Rattle.calls.specs.declared.Access.TheVariants.{Read, Write, Execute, Lookup}

@@ -12,7 +12,8 @@ use Rattle.calls.specs.View.{World}
 use Rattle.calls.specs.Changes.{apply_all}
 use Rattle.calls.specs.Rules.{view, changes}
 use Rattle.calls.specs.Runs.{Event, result_of}
-use Rattle.calls.specs.Laws.Passed.{Passes, Refuses, Does, step_cases}
+use Rattle.calls.specs.Laws.Passed.{Passes, Refuses, Does}
+use Rattle.calls.proofs.Passed.{step_cases}
 use Rattle.calls.proofs.Locks.{whole_passes}
 use Rattle.calls.specs.declared.Call.{Call}
 use Rattle.calls.specs.declared.Call.TheVariants.{OnStore, OnObject, OnDomain}

@@ -14,7 +14,7 @@ use Rattle.calls.specs.View.{World}
 use Rattle.calls.specs.Step.{world_of}
 use Rattle.calls.specs.Runs.{Event, result_of, final}
 use Rattle.calls.specs.Boot.{account_of, limit_of, home_estate, home_pages, boot_accounts, boot_state, boot}
-use Rattle.calls.specs.Laws.Sound.{step_sound}
+use Rattle.calls.proofs.Sound.{step_sound}
 use Rattle.calls.specs.Laws.Plan.{plan_bounds}
 use Rattle.calls.specs.Laws.Booted.{boot_hold, boot_done, boot_sound}
 use Rattle.runs.specs.Ledger.{created, deleted, WithinLimits}

@@ -9,7 +9,7 @@ use Rattle.calls.specs.View.{World, View}
 use Rattle.calls.specs.Changes.{apply_all}
 use Rattle.calls.specs.Rules.{view, changes}
 use Rattle.calls.specs.Step.{step}
-use Rattle.calls.specs.Laws.Passed.{step_cases}
+use Rattle.calls.proofs.Passed.{step_cases}
 use Rattle.calls.specs.declared.Call.{Call}
 use Rattle.calls.specs.declared.Call.TheVariants.{OnStore, OnObject, OnDomain}
 use Rattle.calls.specs.declared.Access.{Access}

@@ -16,7 +16,7 @@ use Rattle.soundness.specs.Laws.StateParts.{state_parts, estate_parts}
 use Rattle.calls.specs.View.{World}
 use Rattle.calls.specs.Step.{world_of}
 use Rattle.calls.specs.Runs.{Event, result_of, final}
-use Rattle.calls.specs.Laws.Sound.{step_sound, step_accounts}
+use Rattle.calls.proofs.Sound.{step_sound, step_accounts}
 use Rattle.runs.specs.Ledger.{WithinLimits}
 use Rattle.runs.specs.Laws.Figure.{step_limits}
 
