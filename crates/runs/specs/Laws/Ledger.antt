@@ -1,4 +1,4 @@
--- The figure of an account along any list of calls, from a boot: document 02, T-05.
+-- The figure of an account along any list of calls: document 02, T-05. From a boot: ../../proofs/Ledger.antt.
 use Rattle.std.specs.Prelude.{ℕ, suc, ◌+◌, ◌<◌, ◌≡◌, refl, true, cond, List, [], ◌∷◌, eqb}
 use Rattle.std.proofs.Common.{arith}
 use Rattle.std.proofs.lemmas.List.{get_or-replicate}
@@ -51,13 +51,6 @@ boot_figure a plan = total_same 4 _ _ (λ d l. rw (tabulate_at 4 (home_estate pl
 module _ (words : List ℕ) (d : ℕ) (plan : List ℕ) (z : number_of (boot words d plan).outcome.answer ≡ 0) where
   abbrev start : World
   start = world_of (boot words d plan)
-
-  -- THE FIGURE OF AN ACCOUNT, that is the pages of all objects on it: what the boot and the granted CRs put on it, without what the granted DLs took
-  -- off; here with the latter on the other side
-  pub figure_is : (a : ℕ) (es : List Event) → pages_of (final start es).state.table a + deleted a start es ≡ home_pages plan a + created a start es
-  figure_is a es =
-      let at_first : pages_of start.state.table a ≡ home_pages plan a = rw (boot_done words d plan z) (boot_figure a plan) in
-      omega (arith, ledger a start es (boot_sound words d plan), at_first)
 
   start_limits : WithinLimits start.state
   unfolding boot_state boot_accounts

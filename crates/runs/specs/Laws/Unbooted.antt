@@ -1,5 +1,6 @@
--- Before a boot no account has pages and no object stands, whatever is called: document 02, T-05 and T-06.
-use Rattle.std.specs.Prelude.{ℕ, zero, suc, ◌<◌, ◌≡◌, refl, true, List, [], ◌∷◌, ◌⊎◌}
+-- Before a boot no account has pages and no object stands, whatever is called: document 02, T-05 and T-06. Behind any list of calls:
+-- ../../proofs/Unbooted.antt.
+use Rattle.std.specs.Prelude.{ℕ, zero, suc, ◌<◌, ◌≡◌, refl, true, ◌⊎◌}
 use Rattle.std.proofs.Common.{◌∙◌, inl, inr, arith, eq-eqb}
 use Rattle.std.proofs.lemmas.List.{get_or-replicate}
 use Rattle.bounded.specs.Bools.{same_or_not}
@@ -14,8 +15,7 @@ use Rattle.soundness.specs.Laws.Estates.{empty_sound}
 use Rattle.soundness.specs.Laws.ObjectParts.{object_parts}
 use Rattle.soundness.specs.Laws.StateParts.{state_parts, estate_parts}
 use Rattle.calls.specs.View.{World}
-use Rattle.calls.specs.Step.{world_of}
-use Rattle.calls.specs.Runs.{Event, result_of, final}
+use Rattle.calls.specs.Runs.{Event, result_of}
 use Rattle.calls.proofs.Sound.{step_sound, step_accounts}
 use Rattle.runs.specs.Ledger.{WithinLimits}
 use Rattle.runs.specs.Laws.Figure.{step_limits}
@@ -53,12 +53,6 @@ step_unbooted w e u =
       accounts = x;
       figure = λ a l. omega (arith, step_limits w e u.is_sound (within w.state u) a l, no_limit s a x l);
     }
-
--- BEFORE A BOOT EVERY FIGURE IS 0, behind any list of calls
-pub stays_unbooted : (w : World) (es : List Event) → Unbooted w.state → Unbooted (final w es).state
-unfolding final
-stays_unbooted w [] u = u
-stays_unbooted w (e ∷ es) u = stays_unbooted (world_of (result_of w e)) es (step_unbooted w e u)
 
 -- a part of a sum of 0
 none_of : (n : ℕ) (f : ℕ → ℕ) → total n f ≡ 0 → (i : ℕ) → i < n → f i ≡ 0
