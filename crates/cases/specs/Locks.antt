@@ -1,11 +1,10 @@
--- Locks, as computed runs behind the listing of document 01; and that locking again changes nothing.
-use Rattle.std.specs.Prelude.{ℕ, ◌<◌, ◌≡◌, refl, true, false, List, [], ◌∷◌, ◌++◌, eqb}
+-- Locks, as runs behind the listing of document 01, computed in ../proofs/Locks.antt; and that locking again changes nothing.
+use Rattle.std.specs.Prelude.{ℕ, ◌<◌, ◌≡◌, true, false, List, [], ◌∷◌, ◌++◌, eqb}
 use Rattle.std.proofs.Common.{ap, sym, arith}
 use Rattle.state.specs.Update.{lock_slot}
 use Rattle.state.specs.declared.Frame.{Frame}
-use Rattle.judge.specs.Search.{searched}
-use Rattle.cases.specs.Runs.{Exchange, by, answers_by}
-use Rattle.cases.specs.Marked.{answers_after, expected_after, computed_after, by_computing, registered}
+use Rattle.cases.specs.Runs.{Exchange, by}
+use Rattle.cases.specs.Marked.{registered}
 use Rattle.calls.specs.declared.Call.TheVariants.{OnDomain}
 use Rattle.calls.specs.declared.DomainCall.TheVariants.{Insert, Remove, Get, Lock, PdxCall, PdxReturn}
 
@@ -30,13 +29,6 @@ lock_runs =
     ∷ by 0 (OnDomain (Insert 1 (record { page = 0; password = 11 }))) (0 ∷ 0 ∷ [])
     ∷ [])
     ∷ []
-
-computed : computed_after searched lock_runs ≡ expected_after lock_runs
-unfolding answers_by
-computed = refl
-
-pub locks : answers_after lock_runs ≡ expected_after lock_runs
-locks = by_computing lock_runs computed
 
 -- LO of a slot that is locked changes nothing, nor does LO 255 under the whole lock
 pub locked_already : (f : Frame) (i : ℕ) → i < f.locked → eqb i 255 ≡ false → lock_slot f i ≡ f

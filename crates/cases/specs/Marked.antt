@@ -1,5 +1,6 @@
--- The marked cases of document 01, "The call program" and "Around the edges", with T-07 of document 02: one table, proved in one go.
-use Rattle.std.specs.Prelude.{ℕ, ◌≡◌, refl, List, [], ◌∷◌, ◌++◌, map, replicate}
+-- The marked cases of document 01, "The call program" and "Around the edges", with T-07 of document 02: one table, proved in one go
+-- in ../proofs/Marked.antt.
+use Rattle.std.specs.Prelude.{ℕ, ◌≡◌, List, [], ◌∷◌, ◌++◌, map, replicate}
 use Rattle.std.proofs.Common.{◌∙◌}
 use Rattle.judge.specs.Search.{searched}
 use Rattle.judge.specs.Judged.{judged}
@@ -65,7 +66,7 @@ expected_after runs = map (λ (es : List Exchange). expected (listing ++ es)) ru
 abbrev pub computed_after : Judging → List (List Exchange) → List (List (List ℕ))
 computed_after judging runs = map (λ (es : List Exchange). answers_by judging (world_of listing_boot) (listing ++ es)) runs
 
-answers_after_lem : (runs : List (List Exchange)) → answers_after runs ≡ computed_after judged runs
+pub answers_after_lem : (runs : List (List Exchange)) → answers_after runs ≡ computed_after judged runs
 answers_after_lem runs = map_same _ _ (λ es. answers_are (world_of listing_boot) (boot_sound _ _ _) (listing ++ es)) runs
 
 pub by_computing : (runs : List (List Exchange)) → computed_after searched runs ≡ expected_after runs → answers_after runs ≡ expected_after runs
@@ -101,11 +102,3 @@ answered = (answer_of listing_boot ∷ []) ∷ answers_after cases
 
 abbrev pub wanted_answers : List (List (List ℕ))
 wanted_answers = ((0 ∷ 0 ∷ []) ∷ []) ∷ expected_after cases
-
-computed : (answer_of listing_boot ∷ []) ∷ computed_after searched cases ≡ wanted_answers
-unfolding answers_by
-computed = refl
-
--- every marked case is answered as the papers say
-pub marked : answered ≡ wanted_answers
-marked = rw (answers_after_lem cases) (by_search (λ j. (answer_of listing_boot ∷ []) ∷ computed_after j cases ≡ wanted_answers) computed)
