@@ -1,21 +1,21 @@
 -- The readable lines, by what they are made of: the digits of a domain, two letters and the digits of the arguments, with commas between.
+-- That they read as what was written: ../proofs/Lines.antt.
 use Rattle.std.specs.Prelude.{ℕ, zero, suc, ◌+◌, ◌/◌, ◌%◌, ◌^◌, ◌<◌, ◌≤◌, ◌≡◌, Bool, true, false, cond, not, ◌&&◌, List, [], ◌∷◌, ◌++◌, map, ◌⊎◌, ltb, eqb, length}
 use Rattle.std.proofs.Math.Path.{refl}
-use Rattle.std.proofs.Common.{◌∙◌, sym, inl, inr, arith, le-ltb, lt-ltb, ltb-true, ltb-false, eq-eqb, ne_eqb}
+use Rattle.std.proofs.Common.{◌∙◌, sym, inl, inr, arith, lt-ltb, ltb-false, ne_eqb}
 use Rattle.std.proofs.Math.Option.{Option, none, some}
 use Rattle.bounded.specs.Bools.{and_left, and_right, and_both}
-use Rattle.calls.specs.Boot.{boot_numbers}
 use Rattle.lines.specs.Number.{field_of}
 use Rattle.lines.specs.Split.{split}
 use Rattle.lines.specs.Arguments.{in_front, numbers_of}
-use Rattle.lines.specs.Letters.{mnemonic_of, letters_of}
-use Rattle.lines.specs.Reading.{unreadable, boot_by}
+use Rattle.lines.specs.Letters.{letters_of}
+use Rattle.lines.specs.Reading.{unreadable}
 use Rattle.lines.specs.Grammar.{line_bytes, with_arguments, line_of}
-use Rattle.lines.specs.Joined.{behind_commas, split_joined, plain, all_plain, split_fields}
+use Rattle.lines.specs.Joined.{behind_commas, split_joined, plain, all_plain}
 use Rattle.lines.specs.declared.Field.{Field}
 use Rattle.lines.specs.declared.Field.TheVariants.{Empty, Number, Bad}
 use Rattle.text.specs.Decimal.{digits_in, decimal}
-use Rattle.readback.specs.Back.{reads_back, only_digits}
+use Rattle.readback.specs.Back.{only_digits}
 
 plain_both : (a b : List ℕ) → plain a ≡ true → plain b ≡ true → plain (a ++ b) ≡ true
 unfolding plain
@@ -27,7 +27,7 @@ digit_plain : (d : ℕ) → plain ((48 + d) ∷ []) ≡ true
 unfolding plain
 digit_plain d = let n : 48 + d ≡ 44 → ⊥ = λ e. omega arith in rw (ne_eqb (48 + d) 44 n)
 
-digits_plain : (k n : ℕ) → plain (digits_in k n) ≡ true
+pub digits_plain : (k n : ℕ) → plain (digits_in k n) ≡ true
 unfolding digits_in plain
 digits_plain zero n = refl
 digits_plain (suc k) n = go (ltb n 10) (digits_plain k (n / 10))
@@ -36,7 +36,7 @@ digits_plain (suc k) n = go (ltb n 10) (digits_plain k (n / 10))
     go true h = digit_plain n
     go false h = plain_both (digits_in k (n / 10)) ((48 + n % 10) ∷ []) h (digit_plain (n % 10))
 
-decimals_plain : (vs : List ℕ) → all_plain (map decimal vs) ≡ true
+pub decimals_plain : (vs : List ℕ) → all_plain (map decimal vs) ≡ true
 unfolding all_plain decimal
 decimals_plain [] = refl
 decimals_plain (v ∷ vs) = and_both (digits_plain 20 v) (decimals_plain vs)
@@ -46,38 +46,13 @@ unfoldable pub words : List ℕ → Bool
 words [] = true
 words (v ∷ vs) = ltb v (2 ^ 64) && words vs
 
-numbers_back : (vs : List ℕ) → words vs ≡ true → numbers_of (map decimal vs) ≡ some vs
-unfolding numbers_of words
-numbers_back [] h = refl
-numbers_back (v ∷ vs) h =
-    rw (reads_back v (ltb-true v (2 ^ 64) (and_left (ltb v (2 ^ 64)) (words vs) h)), numbers_back vs (and_right (ltb v (2 ^ 64)) (words vs) h))
-
 -- the text of a line
 abbrev pub written : ℕ → List ℕ → List ℕ → List ℕ
 written d letters vs = decimal d ++ behind_commas (letters ∷ map decimal vs)
 
--- a written line that is not too long reads as the call of its letters with its arguments
-pub written_read : (d : ℕ) (letters vs : List ℕ) → d < 2 ^ 64 → plain letters ≡ true → words vs ≡ true → length (written d letters vs) ≤ line_bytes
-    → line_of (written d letters vs) ≡ with_arguments d (letters_of letters) (some vs)
-unfolding line_of all_plain decimal
-written_read d letters vs h p w l =
-    rw (le-ltb line_bytes (length (written d letters vs)) l, split_fields (letters ∷ map decimal vs) (decimal d) (digits_plain 20 d) (and_both p (decimals_plain vs)), reads_back d h, numbers_back vs w)
-
 -- BT
 abbrev pub boot_letters : List ℕ
 boot_letters = 66 ∷ 84 ∷ []
-
--- a boot written with its numbers reads as that boot, and one with another count of numbers is unreadable
-module _ (d : ℕ) (plan : List ℕ) (h : d < 2 ^ 64) (w : words plan ≡ true) (l : length (written d boot_letters plan) ≤ line_bytes) where
-  boot_read : line_of (written d boot_letters plan) ≡ cond (eqb (length plan) boot_numbers) (boot_by d plan) unreadable
-  unfolding plain mnemonic_of
-  boot_read = written_read d boot_letters plan h refl w l
-
-  pub boot_back : length plan ≡ boot_numbers → line_of (written d boot_letters plan) ≡ boot_by d plan
-  boot_back n = boot_read ∙ rw (eq-eqb _ _ n)
-
-  pub boot_miscounted : (length plan ≡ boot_numbers → ⊥) → line_of (written d boot_letters plan) ≡ unreadable
-  boot_miscounted n = boot_read ∙ rw (ne_eqb _ _ n)
 
 -- a line that is written so
 pub record Written (s : List ℕ) : Type 0 where
