@@ -7,7 +7,6 @@ use Rattle.state.specs.declared.Frame.{Frame}
 use Rattle.calls.specs.Answers.{refusal_number, number_of, values_of}
 use Rattle.calls.specs.View.{World}
 use Rattle.calls.specs.Changes.{flag}
-use Rattle.calls.specs.Rules.{fields}
 use Rattle.calls.specs.Step.{Result, world, result_of, answer_of}
 use Rattle.calls.specs.Boot.{boot}
 use Rattle.calls.specs.Laws.Passed.{Unchanged}

@@ -24,7 +24,7 @@ use Rattle.calls.specs.declared.Call.TheVariants.{OnObject, OnDomain}
 use Rattle.calls.specs.declared.ObjectCall.{ObjectCall}
 use Rattle.calls.specs.declared.DomainCall.{DomainCall}
 use Rattle.calls.specs.declared.DomainCall.TheVariants.{Insert, Remove, Get, Lock, PdxCall, PdxReturn}
-use Rattle.calls.specs.declared.Answer.TheVariants.{Done, Refused}
+use Rattle.calls.specs.declared.Answer.TheVariants.{Done}
 use Rattle.calls.specs.declared.Altered.{Altered}
 use Rattle.calls.specs.declared.Moved.{Moved}
 
