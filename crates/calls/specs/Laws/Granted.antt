@@ -9,7 +9,6 @@ use Rattle.std.proofs.Math.Option.{Option, none, some}
 use native.Mathlib.Omega.{arith}
 use Rattle.rights.specs.Modes.{read, write, execute, destroy}
 use Rattle.state.specs.Places.{domain_at}
-use Rattle.clists.specs.Clist.{live}
 use Rattle.judge.specs.Judged.{judged}
 use Rattle.judge.specs.Laws.Exactly.{granted_when}
 use Rattle.judge.specs.declared.Target.{Target}
