@@ -32,7 +32,7 @@ const PARTS: [(&str, &[&str]); 7] = [
         ],
     ),
     ("copying", &["memmove", "memcpy", "__memmove", "__memcpy"]),
-    ("printing", &["text::", "io::"]),
+    ("printing", &["text::", "std_io::", "std::io::"]),
     ("the rest", &[""]),
 ];
 
