@@ -52,11 +52,11 @@ unfoldable pub ledger_behind : ℕ → List ℕ → Ledger
 ledger_behind a input = booked_from a started input (pages 0 0)
 
 -- the state is sound, and the figure with what was deleted is what was created
-record Balanced (a : ℕ) (w : World) (l : Ledger) : Type 0 where
-  is_sound : sound w.state ≡ true
-  balance : pages_of w.state.table a + l.deleted ≡ l.created
+pub record Balanced (a : ℕ) (w : World) (l : Ledger) : Type 0 where
+  pub is_sound : sound w.state ≡ true
+  pub balance : pages_of w.state.table a + l.deleted ≡ l.created
 
-line_balanced : (a : ℕ) (w : World) (r : Reading) (l : Ledger) → Balanced a w l → Balanced a (reply step w r).world (booked a w r l)
+pub line_balanced : (a : ℕ) (w : World) (r : Reading) (l : Ledger) → Balanced a w l → Balanced a (reply step w r).world (booked a w r l)
 unfolding reply booked
 line_balanced a w (answered n) l h = h
 line_balanced a w (boot_by d plan) l h = go (boot w.words d plan).outcome.answer refl
@@ -74,22 +74,3 @@ line_balanced a w (boot_by d plan) l h = go (boot w.words d plan).outcome.answer
 line_balanced a w (call_by d c) l h =
     let e : Event = record { domain = d; call = c } in
     record { is_sound = step_sound w d c h.is_sound; balance = omega (arith, h.balance, step_figure a w e h.is_sound) }
-
-bytes_balanced : (a : ℕ) (bs : List ℕ) (r : Progress) (l : Ledger) → Balanced a r.world l → Balanced a (foldl on_byte r bs).world (booked_from a r bs l)
-unfolding booked_from on_byte_by
-bytes_balanced a [] r l h = h
-bytes_balanced a (b ∷ bs) r l h = bytes_balanced a bs (on_byte r b) (booked_byte a r b l) (go (eqb b 10))
-  where
-    go : (t : Bool)
-        → Balanced a (cond t (line_done r (reply step r.world (line_of r.line))) (with_line r (extended r.line b))).world
-        (cond t (booked a r.world (line_of r.line) l) l)
-    go true = line_balanced a r.world (line_of r.line) l h
-    go false = h
-
--- THE FIGURE BEHIND AN INPUT, that is the pages of all objects on the account: what the last granted boot and the granted CRs since put on it, without
--- what the granted DLs took off; here with the latter on the other side
-pub figure_behind : (a : ℕ) (input : List ℕ) → a < 4 → pages_of (table_behind input) a + (ledger_behind a input).deleted ≡ (ledger_behind a input).created
-unfolding behind ledger_behind started
-figure_behind a input l =
-    let first = empty_unbooted.figure a l in
-    (bytes_balanced a input started (pages 0 0) (record { is_sound = empty_unbooted.is_sound; balance = omega (arith, first) })).balance
