@@ -37,7 +37,7 @@ answer_of r = number_of r.outcome.answer ∷ values_of r.outcome
 abbrev pub answered_with : State → Answer → Outcome
 answered_with s a = record { answer = a; fields = no_fields; state = s }
 
--- a refused call's outcome (`refused_changes_nothing`, Laws/Passed.antt)
+-- a refused call's outcome (`refused_changes_nothing`, proofs/Passed.antt)
 abbrev pub refused_with : State → Refusal → Outcome
 refused_with s r = answered_with s (Refused r)
 
