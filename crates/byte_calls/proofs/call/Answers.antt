@@ -1,12 +1,11 @@
+use native.Mathlib.Omega.{arith}
 use borrow.Author.Rules.{rules}
 use mathlib.Core.Path.{sym, ◌∙◌}
 use lib.ListN.{length}
-use borrow.Author.Tests.{not-true, not-false}
+use borrow.Author.Tests.{not-false}
 use Rattle.codec.specs.Codec.{Bytes}
 use Rattle.byte_calls.specs.Laws.Concluded.{right_lengths, by_length, by_image, call_ready, by_call}
 use Rattle.byte_calls.specs.Called.{called}
-use mathlib.Core.Path.{ap}
-use mathlib.Core.Bool.{not}
 use Rattle.byte_calls.proofs.call.Goals as goal
 
 pub returns-then-wrong-ne0 : goal.returns-then-wrong-ne0
@@ -15,7 +14,7 @@ returns-then-wrong-ne0 c = by_length _ _ _ _ _ _ c.wrong_length-wrong.ensures c.
 
 pub returns-then-not-reading : goal.returns-then-not-reading
 unfolding called
-returns-then-not-reading c = let l = right_lengths _ _ (sym c.wrong_length-wrong.ensures ∙ c.if-wrong-ne0.false) in by_image _ _ _ l.0 l.1 (not-true _ (rw c.read_image-reading.ensures at c.if-not-reading.true)) _ _ c.refuse-then-not-reading.ensures.0 c.refuse-then-not-reading.ensures.1
+returns-then-not-reading c = let l = right_lengths _ _ (sym c.wrong_length-wrong.ensures ∙ c.if-wrong-ne0.false) in by_image _ _ _ l.0 l.1 (grind (arith, c.read_image-reading.ensures, c.if-not-reading.true)) _ _ c.refuse-then-not-reading.ensures.0 c.refuse-then-not-reading.ensures.1
 
 pub load-requires : goal.load-requires
 unfolding called
