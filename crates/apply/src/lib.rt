@@ -117,8 +117,8 @@ pub fn unchecked(s: State, store: &mut [u64], d: u64, call: Call) -> Outcome
     }
 }
 
-// A call by a domain. The paper's number and values of its answer are those of `step`, case by case: `answer_numbers` and the laws behind it
-// in `calls`, specs/Laws/Numbers.antt.
+// A call by a domain. The paper's number and values of its answer are those of `step`, case by case: `answer_numbers` in `calls`,
+// specs/Laws/Numbers.antt, and the laws behind it, proofs/Numbers.antt.
 pub fn apply(s: State, store: &mut [u64], d: u64, call: Call) -> Outcome
     ensures { result_of result store.new ≡ step (world s store.old) d call }
 {
