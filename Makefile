@@ -17,9 +17,9 @@ help:
 
 test:
 	@# Only the crate judge and the module that computes examples may open the judgement.
-	@! grep -rl 'Judged\.Inside' crates --include=*.antt | grep -v -e '^crates/judge/' -e '^crates/cases/specs/Runs\.antt$$'
+	@! grep -rl 'Judged\.Inside' crates --include=*.antt --exclude-dir=out | grep -v -e '^crates/judge/' -e '^crates/cases/specs/Runs\.antt$$'
 	@# The examples open it by the name by_search; no other crate may use that.
-	@! grep -rl 'by_search' crates --include=*.antt | grep -v -e '^crates/cases/' -e '^crates/isolation_examples/'
+	@! grep -rl 'by_search' crates --include=*.antt --exclude-dir=out | grep -v -e '^crates/cases/' -e '^crates/isolation_examples/'
 	@tests/run $(MONITOR)
 
 run: $(MONITOR)

@@ -17,7 +17,7 @@ fn index(name: &[&str]) -> Output {
 fn files(folder: &Path, ending: &str, found: &mut Vec<PathBuf>) {
     for entry in fs::read_dir(folder).unwrap() {
         let path = entry.unwrap().path();
-        if path.is_dir() {
+        if path.is_dir() && !path.ends_with("out") {
             files(&path, ending, found);
         } else if path.to_str().unwrap().ends_with(ending) {
             found.push(path);
