@@ -18,7 +18,7 @@ use Rattle.state.specs.declared.State.{State}
 use Rattle.judge.specs.Judged.{judged}
 use Rattle.judge.specs.declared.Target.TheVariants.{Base}
 use Rattle.calls.specs.View.{rights, World, Found, search, object_of, estate_found}
-use Rattle.calls.specs.Changes.{estate, domain, registration}
+use Rattle.calls.specs.Changes.{registration}
 use Rattle.calls.specs.Rules.{view, late, changes}
 use Rattle.calls.specs.Step.{step}
 use Rattle.calls.specs.Boot.{account_of, set_of, home_estate, boot_accounts, boot_state, plan_ok}

@@ -1,5 +1,4 @@
 use mathlib.Core.Path.{sym, ◌∙◌}
-use borrow.Author.Rules.{rules}
 use borrow.Author.Tests.{not-true, not-false}
 use Rattle.calls.specs.Laws.Unchecked.{step_unchecked, step_unsound}
 use mathlib.Core.Path.{ap}

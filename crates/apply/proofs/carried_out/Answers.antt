@@ -1,5 +1,4 @@
 use mathlib.Core.Path.{refl}
-use borrow.Author.Rules.{rules}
 use Rattle.apply.proofs.carried_out.Goals as goal
 
 pub returns-in-OnStore : goal.returns-in-OnStore

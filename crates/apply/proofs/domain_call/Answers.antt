@@ -1,4 +1,3 @@
-use borrow.Author.Rules.{rules}
 use Rattle.calls.proofs.Parts.{moves_length}
 use Rattle.apply.proofs.domain_call.Goals as goal
 

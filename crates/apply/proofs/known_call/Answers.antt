@@ -1,4 +1,3 @@
-use borrow.Author.Rules.{rules}
 use Rattle.apply.proofs.known_call.Goals as goal
 
 pub returns-in-Create : goal.returns-in-Create

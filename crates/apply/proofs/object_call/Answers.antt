@@ -1,5 +1,4 @@
 use mathlib.Core.Path.{sym, ◌∙◌}
-use borrow.Author.Rules.{rules}
 use Rattle.calls.proofs.Parts.{alters_unknown}
 use Rattle.calls.specs.Laws.Returns.{caller_known}
 use Rattle.apply.proofs.object_call.Goals as goal

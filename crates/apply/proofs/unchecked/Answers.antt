@@ -1,5 +1,4 @@
 use mathlib.Core.Path.{sym, ◌∙◌}
-use borrow.Author.Rules.{rules}
 use Rattle.calls.specs.Laws.Returns.{caller_known, by_caller}
 use Rattle.apply.proofs.unchecked.Goals as goal
 

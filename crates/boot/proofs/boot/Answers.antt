@@ -1,5 +1,4 @@
 use mathlib.Core.Path.{sym, ◌∙◌}
-use borrow.Author.Rules.{rules}
 use Rattle.calls.specs.Laws.Booted.{boot_known, boot_unknown}
 use Rattle.calls.specs.Laws.Returns.{caller_known}
 use Rattle.boot.proofs.boot.Goals as goal

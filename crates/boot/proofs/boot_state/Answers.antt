@@ -1,5 +1,4 @@
 use native.Mathlib.Omega.{arith}
-use borrow.Author.Rules.{rules}
 use Rattle.calls.specs.Boot.{boot_state}
 use Rattle.calls.specs.Laws.Plan.{plan_bounds}
 use Rattle.boot.proofs.boot_state.Goals as goal

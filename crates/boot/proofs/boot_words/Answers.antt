@@ -1,4 +1,3 @@
-use borrow.Author.Rules.{rules}
 use Rattle.calls.specs.Boot.{boot_words}
 use Rattle.calls.specs.Laws.Zeroed.{zeroed_whole}
 use Rattle.boot.proofs.boot_words.Goals as goal

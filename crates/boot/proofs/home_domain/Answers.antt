@@ -1,4 +1,3 @@
-use borrow.Author.Rules.{rules}
 use Rattle.calls.specs.Boot.{home_domain}
 use Rattle.boot.proofs.home_domain.Goals as goal
 

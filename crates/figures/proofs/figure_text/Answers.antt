@@ -1,7 +1,6 @@
 use native.Mathlib.Omega.{arith}
 use Rattle.text.specs.Puts.{then}
 use Rattle.figures.specs.Lines.{figure_lines}
-use borrow.Author.Rules.{rules}
 use Rattle.figures.proofs.figure_text.Goals as goal
 
 pub returns : goal.returns

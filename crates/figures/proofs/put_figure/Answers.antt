@@ -1,5 +1,4 @@
 use Rattle.figures.specs.Lines.{line_put}
-use borrow.Author.Rules.{rules}
 use Rattle.figures.proofs.put_figure.Goals as goal
 
 pub returns : goal.returns

@@ -1,12 +1,11 @@
-use Prim.Native.Nat.{◌-◌, ◌+◌, ◌≤◌}
+use Prim.Native.Nat.{◌+◌}
 use mathlib.Core.Path.{◌≡◌, ◌∙◌}
 use mathlib.Core.List.{[], ◌∷◌, ◌++◌}
 use native.Mathlib.Numerals.{add-one}
 use native.Mathlib.Omega.{arith}
-use lib.ListN.{length, take, get_or, length-set}
+use lib.ListN.{take, get_or, length-set}
 use lib.Seq.{take_all, take-suc}
-use Rattle.text.specs.Puts.{Put, put_none, put_byte, then}
-use borrow.Author.Rules.{rules}
+use Rattle.text.specs.Puts.{put_none, put_byte, then}
 use Rattle.listing.proofs.put_bytes.Goals as goal
 
 pub loop-i-init : goal.loop-i-init

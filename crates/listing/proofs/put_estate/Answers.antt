@@ -1,12 +1,9 @@
-use Prim.Native.Nat.{◌-◌, ◌+◌, ◌*◌, ◌≤◌}
 use mathlib.Core.Path.{◌≡◌}
 use native.Mathlib.Omega.{arith}
-use lib.ListN.{length}
 use Rattle.state.specs.Places.{object_at}
-use Rattle.text.specs.Puts.{Put, put_none, then}
+use Rattle.text.specs.Puts.{put_none, then}
 use Rattle.listing.specs.Lines.{place_line, texts, estate_lines}
 use Rattle.listing.specs.Laws.{texts_more}
-use borrow.Author.Rules.{rules}
 use Rattle.listing.proofs.put_estate.Goals as goal
 
 pub loop-k-init : goal.loop-k-init

@@ -1,5 +1,4 @@
 use Rattle.listing.specs.Laws.{line_put}
-use borrow.Author.Rules.{rules}
 use Rattle.listing.proofs.put_object.Goals as goal
 
 pub returns : goal.returns

@@ -1,7 +1,6 @@
 use native.Mathlib.Omega.{arith}
 use borrow.Author.Tests.{eq-eqb, ne_eqb}
 use Rattle.text.specs.Puts.{put_none}
-use borrow.Author.Rules.{rules}
 use Rattle.listing.proofs.put_place.Goals as goal
 
 pub returns-then-o-eq0 : goal.returns-then-o-eq0

@@ -1,4 +1,3 @@
-use borrow.Author.Rules.{rules}
 use Rattle.calls.specs.Rules.{in_range}
 use Rattle.object_calls.proofs.add_in_range.Goals as goal
 

@@ -1,6 +1,5 @@
 use mathlib.Core.Path.{refl}
 use borrow.Author.Tests.{le-ltb, lt-ltb}
-use borrow.Author.Rules.{rules}
 use Rattle.calls.specs.Rules.{rule, in_range, unlocked, late, changes}
 use Rattle.calls.proofs.Parts.{alters_length, alters_range}
 use Rattle.calls.specs.Laws.Based.{based_done}

@@ -3,7 +3,6 @@ use mathlib.Core.Bool.{true, not}
 use native.Mathlib.Omega.{arith}
 use lib.ListN.{length}
 use borrow.Author.Tests.{le-ltb, lt-ltb}
-use borrow.Author.Rules.{rules}
 use Rattle.calls.specs.Rules.{rule, in_range, unlocked, late, changes}
 use Rattle.calls.proofs.Parts.{alters_length, alters_range, alters_lock}
 use Rattle.calls.specs.Laws.Based.{based_done}

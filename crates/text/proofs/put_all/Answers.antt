@@ -1,6 +1,5 @@
 use Rattle.text.specs.Puts.{then}
 use Rattle.text.specs.Answer.{answer_line}
-use borrow.Author.Rules.{rules}
 use Rattle.text.proofs.put_all.Goals as goal
 
 pub returns : goal.returns

@@ -1,9 +1,8 @@
 use mathlib.Core.Path.{◌≡◌}
 use native.Mathlib.Omega.{arith}
-use lib.ListN.{length, length-map, length-take}
+use lib.ListN.{length, length-take}
 use borrow.Author.Tests.{eq-eqb, ne_eqb}
 use Rattle.text.specs.Answer.{shown_all}
-use borrow.Author.Rules.{rules}
 use Rattle.text.proofs.put_answer.Goals as goal
 
 pub returns-then-fields-eq0 : goal.returns-then-fields-eq0

@@ -1,9 +1,7 @@
 use mathlib.Core.Path.{refl, ◌∙◌, ap}
-use mathlib.Core.Logic.{⊎_elim}
 use native.Mathlib.Omega.{arith}
 use lib.ListN.{length, length-set}
-use Rattle.text.specs.Spelled.{Spelling, spelling_none, spelling_two, spelling_one, spelling_all}
-use borrow.Author.Rules.{rules}
+use Rattle.text.specs.Spelled.{spelling_none, spelling_two, spelling_one, spelling_all}
 use Rattle.text.proofs.put_digits.Goals.{then-i-eq1, else-i-eq1}
 use Rattle.text.proofs.put_digits.Goals as goal
 

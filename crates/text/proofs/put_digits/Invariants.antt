@@ -1,9 +1,4 @@
-use mathlib.Core.Path.{refl, ◌∙◌, ap}
-use mathlib.Core.Logic.{⊎_elim}
-use native.Mathlib.Omega.{arith}
-use lib.ListN.{length, length-set}
-use Rattle.text.specs.Spelled.{Spelling, spelling_none, spelling_two, spelling_one, spelling_all}
-use borrow.Author.Rules.{rules}
+use Rattle.text.specs.Spelled.{Spelling}
 use Rattle.text.proofs.put_digits.Given as goal
 
 abbrev pub invariant-loop-i : goal.invariant-loop-i

@@ -1,13 +1,9 @@
-use Prim.Native.Nat.{◌-◌, ◌+◌, ◌*◌, ◌≤◌}
-use mathlib.Core.Path.{◌≡◌}
-use mathlib.Core.List.{[], foldl}
+use mathlib.Core.List.{[]}
 use native.Mathlib.Omega.{arith}
-use lib.ListN.{length, take}
 use lib.Seq.{take_all}
 use Rattle.bounded.specs.Folds.{fold_more}
-use Rattle.text.specs.Puts.{Put, put_none, then}
+use Rattle.text.specs.Puts.{put_none, then}
 use Rattle.text.specs.Answer.{with_field, fields_text}
-use borrow.Author.Rules.{rules}
 use Rattle.text.proofs.put_fields.Goals as goal
 
 pub loop-i-init : goal.loop-i-init

@@ -1,13 +1,9 @@
 use Prim.Native.Nat.{◌-◌, ◌+◌, ◌*◌, ◌≤◌}
 use mathlib.Core.Path.{◌≡◌}
 use mathlib.Core.List.{[], foldl}
-use native.Mathlib.Omega.{arith}
 use lib.ListN.{length, take}
-use lib.Seq.{take_all}
-use Rattle.bounded.specs.Folds.{fold_more}
-use Rattle.text.specs.Puts.{Put, put_none, then}
-use Rattle.text.specs.Answer.{with_field, fields_text}
-use borrow.Author.Rules.{rules}
+use Rattle.text.specs.Puts.{Put}
+use Rattle.text.specs.Answer.{with_field}
 use Rattle.text.proofs.put_fields.Given as goal
 
 abbrev pub invariant-loop-i : goal.invariant-loop-i

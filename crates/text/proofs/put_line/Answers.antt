@@ -1,6 +1,5 @@
 use native.Mathlib.Omega.{arith}
 use Rattle.text.specs.Answer.{no_room, room}
-use borrow.Author.Rules.{rules}
 use Rattle.text.proofs.put_line.Goals as goal
 
 pub returns-then-length-at : goal.returns-then-length-at
