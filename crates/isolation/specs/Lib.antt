@@ -7,12 +7,7 @@ pub mod Mask
 pub mod Accounts
 pub mod Part
 pub mod Kept
-pub mod Charged
-pub mod Seen
 pub mod Induction
 pub mod Blanked
-pub mod Steps
-pub mod Start
-pub mod Theorem
 pub mod Slots
 pub mod Consequences

@@ -10,7 +10,7 @@ use Rattle.calls.specs.declared.ObjectCall.TheVariants.{Create}
 use Rattle.isolation.specs.Runs.{members_calls}
 use Rattle.isolation.specs.Premises.{stays_inside}
 use Rattle.isolation.specs.Claim.{Isolated}
-use Rattle.isolation.specs.Theorem.{isolation}
+use Rattle.isolation.proofs.Theorem.{isolation}
 use Rattle.isolation_examples.specs.Tests.{all_true, trace_of}
 use Rattle.isolation_examples.specs.Decided.{tests_hold}
 use Rattle.isolation_examples.specs.Compared.{all_same, comparing}

@@ -27,10 +27,10 @@ use Rattle.calls.specs.declared.DomainCall.TheVariants.{Insert, Remove, Get, Loc
 use Rattle.isolation.specs.Group.{Group, member}
 use Rattle.isolation.specs.Premises.{wants, Judges, CallPremise}
 use Rattle.isolation.specs.Kept.{insert_each, becomes_each, goes_each, AllKeep, step_keeps}
-use Rattle.isolation.specs.Seen.{live_inside}
-use Rattle.isolation.specs.Slots.Inside.{FrameIn, DomainIn, ObjectIn, EstateIn, Member, StateIn}
-use Rattle.isolation.specs.Slots.Frames.{insert_in, remove_in, lock_in, entered_in, save_in, restore_in}
-use Rattle.isolation.specs.Slots.Objects.{free_in, none_in, drop_in, called_in}
+use Rattle.isolation.proofs.Seen.{live_inside}
+use Rattle.isolation.proofs.Slots.Inside.{FrameIn, DomainIn, ObjectIn, EstateIn, Member, StateIn}
+use Rattle.isolation.proofs.Slots.Frames.{insert_in, remove_in, lock_in, entered_in, save_in, restore_in}
+use Rattle.isolation.proofs.Slots.Objects.{free_in, none_in, drop_in, called_in}
 
 module _ (G : Group) where
   module _ (w : World) (d : ℕ) (h : sound w.state ≡ true) (i : StateIn G w.state) where

@@ -13,8 +13,8 @@ use Rattle.isolation.specs.Premises.{Along}
 use Rattle.isolation.specs.Claim.{SameInside, Isolation}
 use Rattle.isolation.specs.Part.{part, word_in, estate_in, domain_in}
 use Rattle.isolation.specs.Induction.{last_of, answers_of, picked, Throughout, runs_alike}
-use Rattle.isolation.specs.Steps.{Asked, monitor, parted}
-use Rattle.isolation.specs.Start.{start_good, start_same}
+use Rattle.isolation.proofs.Steps.{Asked, monitor, parted}
+use Rattle.isolation.proofs.Start.{start_good, start_same}
 
 -- the claim's runs are runs of the machine of the induction
 final_is : (es : List Event) (w : World) → last_of monitor w es ≡ final w es

@@ -13,9 +13,9 @@ use Rattle.calls.specs.declared.Refusal.{Refusal}
 use Rattle.isolation.specs.Members.{member_below}
 use Rattle.isolation.specs.Group.{Group, member}
 use Rattle.isolation.specs.Kept.{free_each}
-use Rattle.isolation.specs.Slots.Inside.{DomainIn, ObjectIn, EstateIn, StateIn}
-use Rattle.isolation.specs.Slots.Objects.{free_in, none_in}
-use Rattle.isolation.specs.Slots.Frames.{only_in}
+use Rattle.isolation.proofs.Slots.Inside.{DomainIn, ObjectIn, EstateIn, StateIn}
+use Rattle.isolation.proofs.Slots.Objects.{free_in, none_in}
+use Rattle.isolation.proofs.Slots.Frames.{only_in}
 
 module _ (G : Group) where
   -- a home

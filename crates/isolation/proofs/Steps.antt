@@ -28,8 +28,8 @@ use Rattle.isolation.specs.Group.{Group, member}
 use Rattle.isolation.specs.Runs.{blanked, blanked_event}
 use Rattle.isolation.specs.Premises.{changes_inside, OutsiderCall, StatePremise, CallPremise}
 use Rattle.isolation.specs.Part.{part, domain_in, words_length, part_part, all_in, AllOutside, all_out}
-use Rattle.isolation.specs.Charged.{ChargedApart, step_apart}
-use Rattle.isolation.specs.Seen.{view_in}
+use Rattle.isolation.proofs.Charged.{ChargedApart, step_apart}
+use Rattle.isolation.proofs.Seen.{view_in}
 use Rattle.isolation.specs.Blanked.{unchecked_blanked}
 use Rattle.isolation.specs.Induction.{Machine, SameAlone, Parted}
 

@@ -17,8 +17,8 @@ use Rattle.calls.specs.Laws.Searched.{called_registered}
 use Rattle.isolation.specs.Group.{Group, inside_page}
 use Rattle.isolation.specs.Premises.{ListsInside}
 use Rattle.isolation.specs.Kept.{covering_each}
-use Rattle.isolation.specs.Seen.{judged_out}
-use Rattle.isolation.specs.Slots.Inside.{Page, ObjectIn, StateIn}
+use Rattle.isolation.proofs.Seen.{judged_out}
+use Rattle.isolation.proofs.Slots.Inside.{Page, ObjectIn, StateIn}
 
 module _ (G : Group) where
   -- a free place has no registered list

@@ -17,8 +17,8 @@ use Rattle.isolation.specs.Premises.{AccountsApart, SameAccounts}
 use Rattle.isolation.specs.Mask.{mask, mask_keeps, mask_tabulate, mask_set_same}
 use Rattle.isolation.specs.Accounts.{boot_set, inside_account, inside_member, accounts_part, inside_same}
 use Rattle.isolation.specs.Part.{table_part, domains_part, words_part, part}
-use Rattle.isolation.specs.Charged.{boot_apart}
-use Rattle.isolation.specs.Steps.{Good}
+use Rattle.isolation.proofs.Charged.{boot_apart}
+use Rattle.isolation.proofs.Steps.{Good}
 
 module _ (G : Group) (plan plan' : List ℕ) (same : (d : ℕ) → member G d ≡ true → home_of plan d ≡ home_of plan' d)
     (alike : (d : ℕ) → member G d ≡ true → SameAccounts plan plan' d) where

@@ -15,7 +15,7 @@ use Rattle.state.specs.declared.Frame.{Frame}
 use Rattle.state.specs.declared.Domain.{Domain}
 use Rattle.calls.specs.Changes.{entered}
 use Rattle.isolation.specs.Group.{Group}
-use Rattle.isolation.specs.Slots.Inside.{Page, FrameIn, DomainIn}
+use Rattle.isolation.proofs.Slots.Inside.{Page, FrameIn, DomainIn}
 
 module _ (G : Group) where
   -- a frame with one slot

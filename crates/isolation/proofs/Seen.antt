@@ -34,7 +34,7 @@ use Rattle.isolation.specs.Group.{Group, member, inside_page}
 use Rattle.isolation.specs.Premises.{stays_inside, HeldInside, FrameInside, ListsInside, wants, MemberCall}
 use Rattle.isolation.specs.Accounts.{accounts_part, member_inside, charge_in, limit_in}
 use Rattle.isolation.specs.Part.{table_part, words_part, part, estate_in, domain_in, pages_in, word_in, words_length, based_in, covering_in, based_out, covering_out}
-use Rattle.isolation.specs.Charged.{ChargedApart, outside_none}
+use Rattle.isolation.proofs.Charged.{ChargedApart, outside_none}
 
 -- a capability that stays inside shows no password of the object at an outside page
 not_held : (G : Group) (t : Table) (page password : ℕ) → stays_inside G t page password ≡ true → inside_page G page ≡ false
