@@ -1,6 +1,6 @@
 -- What a line asks for, and how a line of each kind is answered and printed.
 use Rattle.std.specs.Prelude.{ℕ, ◌<◌, ◌≡◌, refl, List, [], ◌∷◌, length, replicate}
-use Rattle.std.proofs.Common.{sym, ◌∙◌, arith}
+use Rattle.std.proofs.Common.{arith}
 use Rattle.std.proofs.lemmas.List.{length-replicate}
 use Rattle.state.specs.Places.{domain_at}
 use Rattle.state.specs.Update.{with_estate, with_domain}
@@ -22,7 +22,6 @@ use Rattle.calls.specs.declared.ObjectCall.{ObjectCall}
 use Rattle.calls.specs.declared.DomainCall.{DomainCall}
 use Rattle.calls.specs.declared.Caller.{Caller}
 use Rattle.calls.specs.declared.Caller.TheVariants.{Known as Caller-as-Known, Refused as Caller-as-Refused}
-use Rattle.calls.specs.declared.Refusal.{Refusal}
 use Rattle.calls.specs.declared.Answer.{Answer}
 use Rattle.calls.specs.declared.Outcome.{Outcome}
 use Rattle.calls.specs.declared.Altered.{Altered}

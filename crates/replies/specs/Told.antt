@@ -1,7 +1,7 @@
 -- How a reply is printed.
 use Rattle.std.specs.Prelude.{ℕ, ◌+◌, ◌*◌, ◌≤◌, ◌≡◌, refl, Bool, true, false, cond, List, [], ◌∷◌, ◌++◌, leb, eqb, length, take}
 use Rattle.std.proofs.Common.{arith, length-take, le-leb, leb-true}
-use Rattle.calls.specs.Answers.{number_of, value_of, values_from}
+use Rattle.calls.specs.Answers.{value_of, values_from}
 use Rattle.calls.specs.View.{World}
 use Rattle.calls.specs.declared.Answer.{Answer}
 use Rattle.calls.specs.declared.Fields.{Fields}

@@ -1,6 +1,5 @@
 use mathlib.Core.Path.{◌≡◌}
-use lib.ListN.{length, length-map}
-use borrow.Author.Rules.{rules}
+use lib.ListN.{length}
 use Rattle.replies.specs.Kinds.{boot_told}
 use Rattle.replies.proofs.boots.boot_line.Goals as goal
 

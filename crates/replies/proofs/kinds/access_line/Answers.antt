@@ -1,4 +1,3 @@
-use borrow.Author.Rules.{rules}
 use Rattle.replies.specs.Kinds.{access_told}
 use Rattle.replies.proofs.kinds.access_line.Goals as goal
 

@@ -1,4 +1,3 @@
-use borrow.Author.Rules.{rules}
 use Rattle.replies.proofs.kinds.call_kind.Goals as goal
 
 pub returns-in-Known : goal.returns-in-Known

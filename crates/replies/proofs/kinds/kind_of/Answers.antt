@@ -1,4 +1,3 @@
-use borrow.Author.Rules.{rules}
 use Rattle.replies.proofs.kinds.kind_of.Goals as goal
 
 pub returns-in-Answered : goal.returns-in-Answered

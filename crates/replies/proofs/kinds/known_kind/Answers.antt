@@ -1,4 +1,3 @@
-use borrow.Author.Rules.{rules}
 use Rattle.replies.proofs.kinds.known_kind.Goals as goal
 
 pub returns-in-OnStore : goal.returns-in-OnStore
