@@ -1,4 +1,3 @@
-use borrow.Author.Rules.{rules}
 use mathlib.Core.Path.{◌∙◌}
 use Rattle.byte_calls.specs.Laws.Concluded.{by_done, by_refused}
 use Rattle.byte_calls.proofs.conclude.Goals as goal

@@ -1,7 +1,3 @@
-use borrow.Author.Rules.{rules}
-use borrow.Author.Tests.{not-true, not-false}
-use mathlib.Core.Path.{ap}
-use mathlib.Core.Bool.{not}
 use Rattle.byte_calls.proofs.keep_state.Goals as goal
 
 pub returns-then-not-changed : goal.returns-then-not-changed

@@ -1,4 +1,3 @@
-use borrow.Author.Rules.{rules}
 use Rattle.byte_calls.proofs.changes.domain_run.Goals as goal
 
 pub returns-in-Insert : goal.returns-in-Insert

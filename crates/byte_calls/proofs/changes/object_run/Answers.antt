@@ -1,4 +1,3 @@
-use borrow.Author.Rules.{rules}
 use Rattle.byte_calls.proofs.changes.object_run.Goals as goal
 
 pub returns-in-Create : goal.returns-in-Create

@@ -1,4 +1,3 @@
-use borrow.Author.Rules.{rules}
 use mathlib.Core.Path.{◌∙◌}
 use Rattle.byte_calls.specs.Laws.Stored.{loaded}
 use Rattle.byte_calls.proofs.store.load.Goals as goal

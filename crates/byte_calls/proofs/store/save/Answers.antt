@@ -1,4 +1,3 @@
-use borrow.Author.Rules.{rules}
 use mathlib.Core.Path.{◌∙◌}
 use Rattle.codec.specs.Codec.{Bytes}
 use Rattle.byte_calls.specs.Laws.Stored.{saved}
