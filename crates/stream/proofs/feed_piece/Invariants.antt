@@ -1,15 +1,7 @@
-use Prim.Native.Nat.{◌+◌, ◌-◌, ◌<◌, ◌≤◌}
-use mathlib.Core.Path.{◌≡◌, refl, ◌∙◌, ap}
-use mathlib.Core.List.{foldl}
-use native.Mathlib.Omega.{arith}
-use lib.ListN.{length, take, length-map}
-use Rattle.calls.specs.Step.{world, unchecked}
-use Rattle.stream.specs.Feeding.{fed_none, fed_part}
-use Rattle.stream.specs.Feed.{progress_at, held_bytes, held_byte, on_held}
-use Rattle.replies.specs.Kinds.{IsKind, tells, known_told, object_told, object_place, domain_told}
-use Rattle.stream.specs.Answered.{Stands, stands_told}
-use Rattle.stream.specs.Room.{still_more, still_room, clip_progress, stopped_at}
-use borrow.Author.Rules.{rules}
+use Prim.Native.Nat.{◌-◌}
+use lib.ListN.{length}
+use Rattle.stream.specs.Feed.{progress_at}
+use Rattle.stream.specs.Answered.{Stands}
 use Rattle.stream.proofs.feed_piece.Given as goal
 
 abbrev pub invariant-loop-from : goal.invariant-loop-from

@@ -1,10 +1,5 @@
-use Prim.Native.Nat.{◌-◌, ◌≤◌}
-use mathlib.Core.Path.{◌≡◌}
-use lib.ListN.{length, take}
 use native.Mathlib.Omega.{arith}
-use Rattle.bounded.specs.Folds.{Folding, folding_none, folding_more, folding_all}
-use Rattle.stream.specs.Feed.{held_bytes, held_byte}
-use borrow.Author.Rules.{rules}
+use Rattle.bounded.specs.Folds.{folding_none, folding_more, folding_all}
 use Rattle.stream.proofs.held.hold.Goals as goal
 
 pub loop-i-init : goal.loop-i-init

@@ -1,10 +1,8 @@
 use Prim.Native.Nat.{◌-◌, ◌≤◌}
 use mathlib.Core.Path.{◌≡◌}
 use lib.ListN.{length, take}
-use native.Mathlib.Omega.{arith}
-use Rattle.bounded.specs.Folds.{Folding, folding_none, folding_more, folding_all}
+use Rattle.bounded.specs.Folds.{Folding}
 use Rattle.stream.specs.Feed.{held_bytes, held_byte}
-use borrow.Author.Rules.{rules}
 use Rattle.stream.proofs.held.hold.Given as goal
 
 abbrev pub invariant-loop-i : goal.invariant-loop-i

@@ -1,6 +1,5 @@
 use native.Mathlib.Omega.{arith}
 use Rattle.stream.specs.Held.{held_put, held_full}
-use borrow.Author.Rules.{rules}
 use Rattle.stream.proofs.held.hold_byte.Goals as goal
 
 pub returns-then-n-lt-HELD_BYTES : goal.returns-then-n-lt-HELD_BYTES

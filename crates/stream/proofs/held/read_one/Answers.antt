@@ -1,7 +1,6 @@
 use mathlib.Core.Path.{ap, ◌∙◌}
 use native.Mathlib.Omega.{arith}
 use lib.ListN.{length-take}
-use borrow.Author.Rules.{rules}
 use Rattle.lines.specs.Grammar.{line_of}
 use Rattle.stream.specs.Held.{whole_reads}
 use Rattle.stream.proofs.held.read_one.Goals as goal
