@@ -1,4 +1,3 @@
-use borrow.Author.Rules.{rules}
 use Rattle.panel.proofs.accesses.reshqobi_wr.Goals as goal
 
 pub returns : goal.returns
