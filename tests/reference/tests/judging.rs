@@ -104,47 +104,6 @@ fn a_ban_behind_is_all_that_changed() {
     assert!(alike > 10_000 && changed > 500, "{alike}, {changed}");
 }
 
-/// Behind its home's own pair, domain 0 has two of page 1, both with R and W, and
-/// two of page 2: the owner's, and one that denies W.
-const STOPS: &[u8] = b"0,BT,11,12,13,14,128,128,128,128,0,15,0,15,0,15,0,15
-0,CR,1,1,21,0
-0,CR,2,1,31,0
-0,WR,2,256
-0,WR,3,21
-0,WR,4,256
-0,WR,5,23
-0,WR,6,512
-0,WR,7,31
-0,AP,1,23,3
-0,AP,2,32,130
-0,WR,8,512
-0,WR,9,32
-";
-
-/// A search stops at the first grant only where no password of the object can
-/// deny: with it and without, a ban behind the grant refuses.
-#[test]
-fn a_search_stops_only_where_no_pair_can_deny() {
-    let mut monitor = Monitor::new();
-    for (domain, call) in calls(STOPS) {
-        assert!(monitor.call(domain, &call).is_ok());
-    }
-    let judged = |base: u64, wanted: u64| {
-        let object = &monitor.objects[monitor.index_of_base(base).unwrap()];
-        let verdicts = verdicts(&monitor, 0, object, wanted);
-        let pair = monitor.granting_pair(0, object, wanted);
-        (object.can_deny(wanted), verdicts, pair)
-    };
-    // Nothing can deny, so that the second grant is not looked for.
-    assert_eq!(judged(1, R), (false, vec![Some(2), Some(4)], Some(2)));
-    assert_eq!(judged(1, W), (false, vec![Some(2), Some(4)], Some(2)));
-    // A password denies another right than the wanted one.
-    assert_eq!(judged(2, R), (false, vec![Some(6)], Some(6)));
-    // It denies the wanted right, or one of them, behind the grant.
-    assert_eq!(judged(2, W), (true, vec![Some(6), None], None));
-    assert_eq!(judged(2, OWNER), (true, vec![Some(6), None], None));
-}
-
 /// The state with other words behind every object's first zero pair.
 fn changed_behind_ends(monitor: &Monitor, random: &mut Random) -> Monitor {
     let mut changed = monitor.clone();

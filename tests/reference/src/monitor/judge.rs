@@ -20,8 +20,7 @@ impl Monitor {
     }
 
     /// Rules 2 and 3: the address of the first pair that grants, if there is one
-    /// and no pair denies, wherever it stands in the domain's live lists. Of an
-    /// object that has no password to deny with, the first granting pair decides.
+    /// and no pair denies, wherever it stands in the domain's live lists.
     pub fn granting_pair(&self, domain: usize, object: &Object, wanted: u64) -> Option<u64> {
         let mut first = None;
         for &slot in &self.domains[domain].now.slots {
@@ -39,9 +38,6 @@ impl Monitor {
                     return None;
                 }
                 if first.is_none() && mode_grants(mode, wanted) {
-                    if !object.can_deny(wanted) {
-                        return Some(at);
-                    }
                     first = Some(at);
                 }
             }
