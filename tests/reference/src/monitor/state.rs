@@ -1,6 +1,6 @@
 //! The state: objects with their passwords, and domains with their slots.
 
-use super::modes::{OWNER, P};
+use super::modes::{mode_denies, OWNER, P};
 use std::ops::Range;
 
 pub const DOMAINS: usize = 4;
@@ -115,6 +115,12 @@ impl Object {
             Some(r) if r.password == password => Some(P),
             _ => self.ordinary_mode(password),
         }
+    }
+
+    /// Whether a password of the object takes away a wanted right. The
+    /// registration's is positive, and takes nothing away.
+    pub fn can_deny(&self, wanted: u64) -> bool {
+        self.passwords.iter().any(|p| mode_denies(p.mode, wanted))
     }
 }
 
