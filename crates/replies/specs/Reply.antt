@@ -24,7 +24,7 @@ Carrying = World → ℕ → Call → Result
 abbrev pub at_once : ℕ → World → Reply
 at_once number w = record { number = number; values = 0 ∷ []; world = w }
 
--- the result_of of a call, as a reply
+-- the result of a call, as a reply
 abbrev pub called : Result → Reply
 called r = record { number = number_of r.outcome.answer; values = values_of r.outcome; world = world_of r }
 

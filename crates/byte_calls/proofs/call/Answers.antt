@@ -14,7 +14,9 @@ returns-then-wrong-ne0 c = by_length _ _ _ _ _ _ c.wrong_length-wrong.ensures c.
 
 pub returns-then-not-reading : goal.returns-then-not-reading
 unfolding called
-returns-then-not-reading c = let l = right_lengths _ _ (sym c.wrong_length-wrong.ensures ∙ c.if-wrong-ne0.false) in by_image _ _ _ l.0 l.1 (grind (arith, c.read_image-reading.ensures, c.if-not-reading.true)) _ _ c.refuse-then-not-reading.ensures.0 c.refuse-then-not-reading.ensures.1
+returns-then-not-reading c =
+    let l = right_lengths _ _ (sym c.wrong_length-wrong.ensures ∙ c.if-wrong-ne0.false) in
+    by_image _ _ _ l.0 l.1 (grind (arith, c.read_image-reading.ensures, c.if-not-reading.true)) _ _ c.refuse-then-not-reading.ensures.0 c.refuse-then-not-reading.ensures.1
 
 pub load-requires : goal.load-requires
 unfolding called
@@ -22,8 +24,16 @@ load-requires c = (search rules, (right_lengths _ (length c.args.values.now) (sy
 
 pub conclude-requires : goal.conclude-requires
 unfolding called
-conclude-requires c = let l = right_lengths _ _ (sym c.wrong_length-wrong.ensures ∙ c.if-wrong-ne0.false) in let bytes : Bytes c.args.image.now = λ j. (c.slice_known-1.given j).fits in call_ready _ _ _ _ _ _ _ bytes l.0 l.1 (not-false _ (rw c.read_image-reading.ensures at c.if-not-reading.false)) (rw (c.read_image-reading.ensures, c.load.ensures) at c.unchecked-outcome.ensures) _ c.changed_by.ensures
+conclude-requires c =
+    let l = right_lengths _ _ (sym c.wrong_length-wrong.ensures ∙ c.if-wrong-ne0.false) in
+    let bytes : Bytes c.args.image.now = λ j. (c.slice_known-1.given j).fits in
+    call_ready _ _ _ _ _ _ _ bytes l.0 l.1
+    (not-false _ (rw c.read_image-reading.ensures at c.if-not-reading.false)) (rw (c.read_image-reading.ensures, c.load.ensures) at c.unchecked-outcome.ensures) _ c.changed_by.ensures
 
 pub returns : goal.returns
 unfolding called
-returns c = let l = right_lengths _ _ (sym c.wrong_length-wrong.ensures ∙ c.if-wrong-ne0.false) in let bytes : Bytes c.args.image.now = λ j. (c.slice_known-1.given j).fits in by_call _ _ _ _ _ _ _ bytes l.0 l.1 (not-false _ (rw c.read_image-reading.ensures at c.if-not-reading.false)) (rw (c.read_image-reading.ensures, c.load.ensures) at c.unchecked-outcome.ensures) c.conclude.ensures
+returns c =
+    let l = right_lengths _ _ (sym c.wrong_length-wrong.ensures ∙ c.if-wrong-ne0.false) in
+    let bytes : Bytes c.args.image.now = λ j. (c.slice_known-1.given j).fits in
+    by_call _ _ _ _ _ _ _ bytes l.0 l.1
+    (not-false _ (rw c.read_image-reading.ensures at c.if-not-reading.false)) (rw (c.read_image-reading.ensures, c.load.ensures) at c.unchecked-outcome.ensures) c.conclude.ensures

@@ -12,7 +12,7 @@ use Rattle.calls.specs.declared.Call.{Call}
 use Rattle.calls.specs.declared.Refusal.{Refusal}
 use Rattle.calls.specs.declared.Answer.TheVariants.{Refused}
 
--- the result_of of a call that is refused by `why`: its number, the value 0, no fields, and the state and the words that came in
+-- the result of a call that is refused by `why`: its number, the value 0, no fields, and the state and the words that came in
 pub record Unchanged (w : World) (why : Refusal) (r : Result) : Type 0 where
   pub number : number_of r.outcome.answer ≡ refusal_number why
   pub value : value_of r.outcome.answer ≡ 0
@@ -20,7 +20,7 @@ pub record Unchanged (w : World) (why : Refusal) (r : Result) : Type 0 where
   pub state : r.outcome.state ≡ w.state
   pub words : r.words ≡ w.words
 
--- the result_of is such a one wherever it is a refusal
+-- the result is such a one wherever it is a refusal
 abbrev pub KeptIfRefused : World → Result → Type 0
 KeptIfRefused w r = (why : Refusal) → r.outcome.answer ≡ Refused why → Unchanged w why r
 

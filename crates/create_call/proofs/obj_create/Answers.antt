@@ -1,12 +1,9 @@
-use mathlib.Core.Path.{◌≡◌, refl}
+use mathlib.Core.Path.{refl}
 use native.Mathlib.Omega.{arith}
 use borrow.Author.Tests.{eq-eqb, le-leb, le-ltb}
 use borrow.Author.Rules.{rules}
 use Rattle.bounded.specs.Bools.{and_left}
-use Rattle.state.specs.Update.{new_object}
-use Rattle.state.specs.declared.Object.{Object}
 use Rattle.calls.specs.Rules.{rule, unlocked, late, changes}
-use Rattle.calls.specs.Parts.{Entered}
 use Rattle.calls.specs.Laws.Parts.{alters_done}
 use Rattle.calls.proofs.Parts.{alters_length, alters_unknown, alters_range, alters_late}
 use Rattle.calls.specs.Laws.Told.{holds, fails}
@@ -15,10 +12,6 @@ use Rattle.create_call.proofs.Ranges.{create_range, create_run}
 use mathlib.Core.Path.{ap}
 use mathlib.Core.Bool.{not}
 use Rattle.create_call.proofs.obj_create.Goals as goal
-
--- the object that CR asks for
--- it is the one that is made, on the account that is named
--- behind checks 2 and 4
 
 pub returns-then-store-ne-STORE_WORDS : goal.returns-then-store-ne-STORE_WORDS
 unfolding rule unlocked late changes
@@ -30,8 +23,8 @@ returns-then-d-ge4 c f = alters_unknown _ _ _ f _ _ (rw (eq-eqb _ _ c.if-store-n
 
 pub returns-then-not-create_in_range : goal.returns-then-not-create_in_range
 unfolding rule unlocked late changes
-returns-then-not-create_in_range c f = let entered : (Entered c.args.store.now c.args.d) = record { long = c.if-store-ne-STORE_WORDS.false; known = c.if-d-ge4.false } in
-    alters_range _ _ _ f _ _ entered (fails c.create_in_range.ensures (ap not c.if-not-create_in_range.true)) c.unaltered-then-not-create_in_range.ensures
+returns-then-not-create_in_range c f =
+    alters_range _ _ _ f _ _ (record { long = c.if-store-ne-STORE_WORDS.false; known = c.if-d-ge4.false }) (fails c.create_in_range.ensures (ap not c.if-not-create_in_range.true)) c.unaltered-then-not-create_in_range.ensures
 
 pub overflow_cast-page : goal.overflow_cast-page
 unfolding rule unlocked late changes
@@ -47,19 +40,15 @@ overflow_cast-account c = omega (arith, (create_range _ _ _ _ (holds c.create_in
 
 pub returns-then-not-run_ok : goal.returns-then-not-run_ok
 unfolding rule unlocked late changes
-returns-then-not-run_ok c f = let asked : (Object) = new_object c.args.page c.args.pages c.args.password c.args.account in
-    let made : (c.new_object-o.result ≡ asked) = c.new_object-o.ensures in
-    let entered : (Entered c.args.store.now c.args.d) = record { long = c.if-store-ne-STORE_WORDS.false; known = c.if-d-ge4.false } in
-    alters_late _ _ _ f _ _ entered {why = NoRun} (holds c.create_in_range.ensures (ap not c.if-not-create_in_range.false)) refl
-    (λ m q. rw (← made, fails c.run_ok.ensures (ap not c.if-not-run_ok.true))) c.unaltered-then-not-run_ok.ensures
+returns-then-not-run_ok c f =
+    alters_late _ _ _ f _ _ (record { long = c.if-store-ne-STORE_WORDS.false; known = c.if-d-ge4.false }) {why = NoRun} (holds c.create_in_range.ensures (ap not c.if-not-create_in_range.false)) refl
+    (λ m q. rw (← c.new_object-o.ensures, fails c.run_ok.ensures (ap not c.if-not-run_ok.true))) c.unaltered-then-not-run_ok.ensures
 
 pub returns-then-not-in_set : goal.returns-then-not-in_set
 unfolding rule unlocked late changes
-returns-then-not-in_set c f = let asked : (Object) = new_object c.args.page c.args.pages c.args.password c.args.account in
-    let made : (c.new_object-o.result ≡ asked) = c.new_object-o.ensures in
-    let entered : (Entered c.args.store.now c.args.d) = record { long = c.if-store-ne-STORE_WORDS.false; known = c.if-d-ge4.false } in
-    alters_late _ _ _ f _ _ entered {why = NotPermitted} (holds c.create_in_range.ensures (ap not c.if-not-create_in_range.false)) refl
-    (λ m q. rw (← made, holds c.run_ok.ensures (ap not c.if-not-run_ok.false), fails c.in_set.ensures (ap not c.if-not-in_set.true)))
+returns-then-not-in_set c f =
+    alters_late _ _ _ f _ _ (record { long = c.if-store-ne-STORE_WORDS.false; known = c.if-d-ge4.false }) {why = NotPermitted} (holds c.create_in_range.ensures (ap not c.if-not-create_in_range.false)) refl
+    (λ m q. rw (← c.new_object-o.ensures, holds c.run_ok.ensures (ap not c.if-not-run_ok.false), fails c.in_set.ensures (ap not c.if-not-in_set.true)))
     c.unaltered-then-not-in_set.ensures
 
 pub bounds-x-account : goal.bounds-x-account
@@ -72,12 +61,10 @@ within_limit-requires c = (create_range _ _ _ _ (holds c.create_in_range.ensures
 
 pub returns-then-not-within_limit : goal.returns-then-not-within_limit
 unfolding rule unlocked late changes
-returns-then-not-within_limit c f = let asked : (Object) = new_object c.args.page c.args.pages c.args.password c.args.account in
-    let made : (c.new_object-o.result ≡ asked) = c.new_object-o.ensures in
-    let entered : (Entered c.args.store.now c.args.d) = record { long = c.if-store-ne-STORE_WORDS.false; known = c.if-d-ge4.false } in
-    alters_late _ _ _ f _ _ entered {why = LimitPassed} (holds c.create_in_range.ensures (ap not c.if-not-create_in_range.false)) refl
+returns-then-not-within_limit c f =
+    alters_late _ _ _ f _ _ (record { long = c.if-store-ne-STORE_WORDS.false; known = c.if-d-ge4.false }) {why = LimitPassed} (holds c.create_in_range.ensures (ap not c.if-not-create_in_range.false)) refl
     (λ m q. rw (
-      ← made,
+      ← c.new_object-o.ensures,
       holds c.run_ok.ensures (ap not c.if-not-run_ok.false),
       holds c.in_set.ensures (ap not c.if-not-in_set.false),
       fails c.within_limit.ensures (ap not c.if-not-within_limit.true),
@@ -86,12 +73,10 @@ returns-then-not-within_limit c f = let asked : (Object) = new_object c.args.pag
 
 pub returns-then-not-has_room : goal.returns-then-not-has_room
 unfolding rule unlocked late changes
-returns-then-not-has_room c f = let asked : (Object) = new_object c.args.page c.args.pages c.args.password c.args.account in
-    let made : (c.new_object-o.result ≡ asked) = c.new_object-o.ensures in
-    let entered : (Entered c.args.store.now c.args.d) = record { long = c.if-store-ne-STORE_WORDS.false; known = c.if-d-ge4.false } in
-    alters_late _ _ _ f _ _ entered {why = Full} (holds c.create_in_range.ensures (ap not c.if-not-create_in_range.false)) refl
+returns-then-not-has_room c f =
+    alters_late _ _ _ f _ _ (record { long = c.if-store-ne-STORE_WORDS.false; known = c.if-d-ge4.false }) {why = Full} (holds c.create_in_range.ensures (ap not c.if-not-create_in_range.false)) refl
     (λ m q. rw (
-      ← made,
+      ← c.new_object-o.ensures,
       holds c.run_ok.ensures (ap not c.if-not-run_ok.false),
       holds c.in_set.ensures (ap not c.if-not-in_set.false),
       holds c.within_limit.ensures (ap not c.if-not-within_limit.false),
@@ -109,13 +94,11 @@ overflow_mul-pages c = omega (arith, (create_range _ _ _ _ (holds c.create_in_ra
 
 pub returns : goal.returns
 unfolding rule unlocked late changes
-returns c f = let asked : (Object) = new_object c.args.page c.args.pages c.args.password c.args.account in
-    let made : (c.new_object-o.result ≡ asked) = c.new_object-o.ensures in
-    let entered : (Entered c.args.store.now c.args.d) = record { long = c.if-store-ne-STORE_WORDS.false; known = c.if-d-ge4.false } in
+returns c f =
     let i = holds c.run_ok.ensures (ap not c.if-not-run_ok.false) in
-    alters_done _ _ _ f _ _ entered refl entered.known (holds c.create_in_range.ensures (ap not c.if-not-create_in_range.false)) refl
+    alters_done _ _ _ f _ _ (record { long = c.if-store-ne-STORE_WORDS.false; known = c.if-d-ge4.false }) refl c.if-d-ge4.false (holds c.create_in_range.ensures (ap not c.if-not-create_in_range.false)) refl
     (λ m q. rw (
-      ← made,
+      ← c.new_object-o.ensures,
       i,
       holds c.in_set.ensures (ap not c.if-not-in_set.false),
       holds c.within_limit.ensures (ap not c.if-not-within_limit.false),
@@ -123,8 +106,8 @@ returns c f = let asked : (Object) = new_object c.args.page c.args.pages c.args.
     ))
     (λ m q s. rw (
       c.insert_object.ensures,
-      made,
+      c.new_object-o.ensures,
       c.zero_words.ensures,
-      entered.long,
-      le-leb _ _ (create_run _ _ _ _ _ _ made (and_left _ _ i) entered.known),
+      c.if-store-ne-STORE_WORDS.false,
+      le-leb _ _ (create_run _ _ _ _ _ _ c.new_object-o.ensures (and_left _ _ i) c.if-d-ge4.false),
     ))

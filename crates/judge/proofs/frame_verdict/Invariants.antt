@@ -1,20 +1,11 @@
-use Prim.Native.Nat.{ℕ, ◌*◌, ◌-◌, ◌<◌, ◌≤◌}
-use mathlib.Core.Path.{◌≡◌, refl, ap, sym, ◌∙◌}
-use mathlib.Core.Bool.{Bool, true, false, cond}
-use mathlib.Core.List.{List, []}
-use native.Mathlib.Omega.{arith}
-use borrow.Author.Tests.{lt-ltb}
-use Rattle.bounded.specs.Search.{first}
-use Rattle.state.specs.Places.{slot_at}
+use Prim.Native.Nat.{ℕ, ◌-◌}
+use mathlib.Core.List.{List}
 use Rattle.state.specs.declared.Object.{Object}
 use Rattle.state.specs.declared.Table.{Table}
 use Rattle.state.specs.declared.Frame.{Frame}
-use Rattle.clists.specs.Clist.{named, live, clist, list_at}
-use Rattle.judge.specs.Search.{granting, denying, list_first, slot_first}
-use Rattle.clists.specs.Laws.Lists.{list_unused}
-use Rattle.judge.specs.Walk.{list_verdict, Walking, walk_skip, grant_undenied}
+use Rattle.judge.specs.Search.{granting, denying, slot_first}
+use Rattle.judge.specs.Walk.{Walking}
 use Rattle.judge.specs.declared.Verdict.{Verdict}
-use Rattle.judge.specs.declared.Verdict.TheVariants.{Denied}
 use Rattle.judge.proofs.frame_verdict.Given as goal
 
 module _ (t : Table) (words : List ℕ) (f : Frame) (o : Object) (wanted : ℕ) where
@@ -28,34 +19,6 @@ module _ (t : Table) (words : List ℕ) (f : Frame) (o : Object) (wanted : ℕ) 
   -- what the walk knows at slot k
   abbrev AtSlot : ℕ → Verdict → Type 0
   AtSlot k found = Walking denial grant 8 k found
-
-  -- what is said of a slot in use, by the Clist of its capability
-  abbrev said : ℕ → Verdict
-  said k = list_verdict (cond (live t (slot_at f k)) (clist words (named t (slot_at f k))) []) (64 * (slot_at f k).page) o wanted
-
-  used : (k : ℕ) → k < f.count → said k ≡ cond (denying (denial k)) Denied (grant k)
-  unfolding slot_first list_at list_verdict
-  used k h = rw (lt-ltb k f.count h)
-
-  granted : (k : ℕ) → denying (grant k) ≡ false
-  unfolding slot_first
-  granted k = grant_undenied (list_at t words f k) (64 * (slot_at f k).page) o wanted
-
-  -- a slot in use denies where what is said does; where it does not, what is said is its grant
-  denies_as : (k : ℕ) {v : Verdict} → k < f.count → v ≡ said k → denying (denial k) ≡ denying v
-  denies_as k h e = go (denying (denial k)) (grant k) (granted k) ∙ ap denying (sym (e ∙ used k h))
-    where
-      go : (b : Bool) (g : Verdict) → denying g ≡ false → b ≡ denying (cond b Denied g)
-      go true g e = refl
-      go false g e = sym e
-
-  grants_as : (k : ℕ) {v : Verdict} → k < f.count → v ≡ said k → denying (denial k) ≡ false → v ≡ grant k
-  grants_as k h e n = e ∙ used k h ∙ rw n
-
-  -- slots that are not in use say nothing
-  unused : (k : ℕ) (found : Verdict) → f.count ≤ k → k < 8 → AtSlot k found → AtSlot 8 found
-  unfolding slot_first list_first first
-  unused k found h l w = walk_skip 8 w (omega arith) (omega arith) (λ j a b. rw (list_unused t words f j (omega arith)) (refl, refl))
 
 abbrev pub invariant-loop-k : goal.invariant-loop-k
 invariant-loop-k l = AtSlot l.t l.store l.f l.o l.wanted.bits l.k l.found

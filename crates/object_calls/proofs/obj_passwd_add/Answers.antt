@@ -1,19 +1,14 @@
-use mathlib.Core.Path.{◌≡◌, refl, ap, ◌∙◌, sym}
-use mathlib.Core.Bool.{true, not}
+use mathlib.Core.Path.{refl, ap, ◌∙◌, sym}
+use mathlib.Core.Bool.{not}
 use native.Mathlib.Omega.{arith}
-use lib.ListN.{length}
 use borrow.Author.Tests.{le-ltb, lt-ltb}
-use Rattle.calls.specs.Rules.{rule, in_range, unlocked, late, changes}
+use Rattle.calls.specs.Rules.{rule, unlocked, late, changes}
 use Rattle.calls.proofs.Parts.{alters_length, alters_range, alters_lock}
 use Rattle.calls.specs.Laws.Based.{based_done}
 use Rattle.calls.proofs.Based.{based_late}
 use Rattle.calls.specs.Laws.Told.{holds, fails}
-use Rattle.calls.specs.declared.Call.TheVariants.{OnObject}
-use Rattle.calls.specs.declared.ObjectCall.TheVariants.{AddPassword}
 use Rattle.object_calls.proofs.Ranges.{add_range}
 use Rattle.object_calls.proofs.obj_passwd_add.Goals as goal
-
--- behind checks 2, 5 and 6
 
 pub returns-then-store-ne-STORE_WORDS : goal.returns-then-store-ne-STORE_WORDS
 unfolding rule unlocked late changes
@@ -29,23 +24,20 @@ returns-then-f c u d below = alters_lock _ u d _ _ _ (record { long = c.if-store
 
 pub returns-in_default : goal.returns-in_default
 unfolding rule unlocked late changes
-returns-in_default c u d below = let passed : (let call = OnObject (AddPassword c.args.base c.args.password c.args.mode) in (in_range call ≡ true) × (unlocked call c.args.f ≡ true) × (length c.args.store.now ≡ 8192)) = (holds c.add_in_range.ensures (ap not c.if-not-add_in_range.false), ap not c.if-f.false, c.if-store-ne-STORE_WORDS.false) in
-    let p = passed in
-    based_late _ u d _ _ _ (record { long = p.2; known = below }) refl p.0 p.1 c.judge.ensures c.in_default.is
+returns-in_default c u d below =
+    based_late _ u d _ _ _ (record { long = c.if-store-ne-STORE_WORDS.false; known = below }) refl (sym c.add_in_range.ensures ∙ c.if-not-add_in_range.false) (ap not c.if-f.false) c.judge.ensures c.in_default.is
     (λ v s. rw s.found) c.unaltered-in_default.ensures
 
 pub returns-then-has_password : goal.returns-then-has_password
 unfolding rule unlocked late changes
-returns-then-has_password c u d below = let passed : (let call = OnObject (AddPassword c.args.base c.args.password c.args.mode) in (in_range call ≡ true) × (unlocked call c.args.f ≡ true) × (length c.args.store.now ≡ 8192)) = (holds c.add_in_range.ensures (ap not c.if-not-add_in_range.false), ap not c.if-f.false, c.if-store-ne-STORE_WORDS.false) in
-    let p = passed in
-    based_late _ u d _ _ _ (record { long = p.2; known = below }) refl p.0 p.1 c.judge.ensures c.in-Granted.is
+returns-then-has_password c u d below =
+    based_late _ u d _ _ _ (record { long = c.if-store-ne-STORE_WORDS.false; known = below }) refl (sym c.add_in_range.ensures ∙ c.if-not-add_in_range.false) (ap not c.if-f.false) c.judge.ensures c.in-Granted.is
     (λ v s. rw (s.found, ← c.object_based-o.ensures, sym c.has_password.ensures ∙ c.if-has_password.true)) c.unaltered-then-has_password.ensures
 
 pub returns-then-free_password_place-ge4 : goal.returns-then-free_password_place-ge4
 unfolding rule unlocked late changes
-returns-then-free_password_place-ge4 c u d below = let passed : (let call = OnObject (AddPassword c.args.base c.args.password c.args.mode) in (in_range call ≡ true) × (unlocked call c.args.f ≡ true) × (length c.args.store.now ≡ 8192)) = (holds c.add_in_range.ensures (ap not c.if-not-add_in_range.false), ap not c.if-f.false, c.if-store-ne-STORE_WORDS.false) in
-    let p = passed in
-    based_late _ u d _ _ _ (record { long = p.2; known = below }) refl p.0 p.1 c.judge.ensures c.in-Granted.is
+returns-then-free_password_place-ge4 c u d below =
+    based_late _ u d _ _ _ (record { long = c.if-store-ne-STORE_WORDS.false; known = below }) refl (sym c.add_in_range.ensures ∙ c.if-not-add_in_range.false) (ap not c.if-f.false) c.judge.ensures c.in-Granted.is
     (λ v s. rw (
       s.found,
       ← c.object_based-o.ensures,
@@ -57,14 +49,13 @@ returns-then-free_password_place-ge4 c u d below = let passed : (let call = OnOb
 
 pub overflow_cast-mode : goal.overflow_cast-mode
 unfolding rule unlocked late changes
-overflow_cast-mode c = let passed : (let call = OnObject (AddPassword c.args.base c.args.password c.args.mode) in (in_range call ≡ true) × (unlocked call c.args.f ≡ true) × (length c.args.store.now ≡ 8192)) = (holds c.add_in_range.ensures (ap not c.if-not-add_in_range.false), ap not c.if-f.false, c.if-store-ne-STORE_WORDS.false) in
-    omega (arith, (add_range _ _ _ passed.0).1)
+overflow_cast-mode c =
+    omega (arith, (add_range _ _ _ (sym c.add_in_range.ensures ∙ c.if-not-add_in_range.false)).1)
 
 pub returns : goal.returns
 unfolding rule unlocked late changes
-returns c u d below = let passed : (let call = OnObject (AddPassword c.args.base c.args.password c.args.mode) in (in_range call ≡ true) × (unlocked call c.args.f ≡ true) × (length c.args.store.now ≡ 8192)) = (holds c.add_in_range.ensures (ap not c.if-not-add_in_range.false), ap not c.if-f.false, c.if-store-ne-STORE_WORDS.false) in
-    let p = passed in
-    based_done _ u d _ _ _ (record { long = p.2; known = below }) refl p.0 p.1 c.judge.ensures c.in-Granted.is _ (lt-ltb _ _ (add_range _ _ _ p.0).0)
+returns c u d below =
+    based_done _ u d _ _ _ (record { long = c.if-store-ne-STORE_WORDS.false; known = below }) refl (sym c.add_in_range.ensures ∙ c.if-not-add_in_range.false) (ap not c.if-f.false) c.judge.ensures c.in-Granted.is _ (lt-ltb _ _ (add_range _ _ _ (sym c.add_in_range.ensures ∙ c.if-not-add_in_range.false)).0)
     (λ v s. rw (
       s.found,
       ← c.object_based-o.ensures,

@@ -12,9 +12,8 @@ use Rattle.stream.specs.Room.{still_more, still_room, clip_progress, stopped_at}
 use borrow.Author.Rules.{rules}
 use Rattle.stream.proofs.feed_piece.Goals as goal
 
--- in the loop there is more of the piece, and room
--- where a line ends, less is left behind it
--- what the kind of the line tells of it
+-- `more` and `room`: in the loop there is more of the piece, and room. `less`: where a line ends, less is left behind it. `told`: what the
+-- kind of the line tells of it.
 
 pub loop-from-init : goal.loop-from-init
 loop-from-init c = let long : length c.args.f.line ≡ held_bytes = c.well_formed.0.1.1.1.1.0.1.0.1 in

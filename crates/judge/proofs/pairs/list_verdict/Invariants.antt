@@ -1,12 +1,11 @@
-use Prim.Native.Nat.{ℕ, ◌-◌, ◌≤◌, ◌<◌}
+use Prim.Native.Nat.{ℕ, ◌-◌, ◌<◌}
 use mathlib.Core.Path.{◌≡◌}
 use mathlib.Core.Bool.{true}
 use mathlib.Core.List.{List}
-use Rattle.bounded.specs.Search.{Skipped}
 use Rattle.state.specs.declared.Object.{Object}
 use Rattle.judge.specs.Search.{pair_verdict}
-use Rattle.judge.specs.Naming.{names, other_passed}
-use Rattle.judge.specs.Walk.{Walking, walk_skip}
+use Rattle.judge.specs.Naming.{names}
+use Rattle.judge.specs.Walk.{Walking}
 use Rattle.judge.specs.declared.Verdict.{Verdict}
 use Rattle.judge.proofs.pairs.list_verdict.Given as goal
 
@@ -14,11 +13,6 @@ module _ (list : List ℕ) (at : ℕ) (o : Object) (wanted : ℕ) where
   -- what the walk knows at pair i
   abbrev AtPair : ℕ → ℕ → Verdict → Type 0
   AtPair n i found = Walking (pair_verdict list at o wanted) (pair_verdict list at o wanted) n i found
-
-  -- pairs that name another object are passed over
-  others : (n i j : ℕ) {found : Verdict} → 0 < wanted → AtPair n i found → Skipped (names list o.base) i j → j ≤ n → AtPair n j found
-  others n i j h w s l =
-      walk_skip j w s.upward l (λ k a b. let e = other_passed list at o wanted k h (s.fails k a b) in (e, e))
 
 abbrev pub invariant-loop-i : goal.invariant-loop-i
 invariant-loop-i l = AtPair l.list l.start l.o l.wanted.bits l.pairs l.i l.found × (l.i < l.pairs → names l.list l.o.base l.i ≡ true)

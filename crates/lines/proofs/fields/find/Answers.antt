@@ -6,9 +6,7 @@ use lib.ListN.{length, drop, get_or}
 use Rattle.lines.specs.Until.{until, Seeking, seeking_none, seeking_more, seeking_found, seeking_all, until_within}
 use Rattle.lines.proofs.fields.find.Goals as goal
 
--- no b stands before byte i, which is in the text or its end
-
--- what is promised of a result_of i
+-- what is promised of a result i
 abbrev Answer : ℕ → List ℕ → ℕ → ℕ → Type 0
 Answer b s from i = (i ≡ from + until b (drop from s)) × (from ≤ i) × (i ≤ from + (length s - from))
 
@@ -25,7 +23,22 @@ module _ {b : ℕ} {s : List ℕ} {from i : ℕ} (k : Seeking b s from i) where
   past : (j : ℕ) → j ≡ i + 1 → i < length s → (get_or s i 0 ≡ b → ⊥) → Seeking b s from j
   past j e h n = rw e (seeking_more k h n)
 
--- past the first k bytes of a turn
+-- past the first of four bytes of a turn, and so past the next ones
+module _ (b : ℕ) (s : List ℕ) (from i : ℕ) (k : Seeking b s from i) (l : i + 4 ≤ length s) where
+  abbrev Other : ℕ → Type 0
+  Other j = get_or s j 0 ≡ b → ⊥
+
+  past1 : Other i → Seeking b s from (i + 1)
+  past1 w = past k (i + 1) (omega arith) (omega arith) w
+
+  past2 : Other i → Other (i + 1) → Seeking b s from (i + 2)
+  past2 w x = past (past1 w) (i + 2) (omega arith) (omega arith) x
+
+  past3 : Other i → Other (i + 1) → Other (i + 2) → Seeking b s from (i + 3)
+  past3 w x y = past (past2 w x) (i + 3) (omega arith) (omega arith) y
+
+  past4 : Other i → Other (i + 1) → Other (i + 2) → Other (i + 3) → Seeking b s from (i + 4)
+  past4 w x y z = past (past3 w x y) (i + 4) (omega arith) (omega arith) z
 
 pub returns-then-s-from : goal.returns-then-s-from
 returns-then-s-from c = over seeking_none c.if-s-from.true
@@ -37,30 +50,20 @@ pub returns-then-s-i : goal.returns-then-s-i
 returns-then-s-i c = found c.loop-i.invariant.0 (omega arith) c.if-s-i.true
 
 pub returns-then-s-i-2 : goal.returns-then-s-i-2
-returns-then-s-i-2 c = let Past : (ℕ → Type 0) = λ k. Seeking c.args.b c.args.s.now c.args.from (c.loop-i.i + k) in
-    let past1 : (Past 1) = past c.loop-i.invariant.0 _ (omega arith) (omega arith) c.if-s-i.false in
-    found past1 (omega arith) c.if-s-i-2.true
+returns-then-s-i-2 c =
+    found (past1 c.args.b c.args.s.now c.args.from c.loop-i.i c.loop-i.invariant.0 (omega arith) c.if-s-i.false) (omega arith) c.if-s-i-2.true
 
 pub returns-then-s-i-3 : goal.returns-then-s-i-3
-returns-then-s-i-3 c = let Past : (ℕ → Type 0) = λ k. Seeking c.args.b c.args.s.now c.args.from (c.loop-i.i + k) in
-    let past1 : (Past 1) = past c.loop-i.invariant.0 _ (omega arith) (omega arith) c.if-s-i.false in
-    let past2 : (Past 2) = past past1 _ (omega arith) (omega arith) c.if-s-i-2.false in
-    found past2 (omega arith) c.if-s-i-3.true
+returns-then-s-i-3 c =
+    found (past2 c.args.b c.args.s.now c.args.from c.loop-i.i c.loop-i.invariant.0 (omega arith) c.if-s-i.false c.if-s-i-2.false) (omega arith) c.if-s-i-3.true
 
 pub returns-then-s-i-4 : goal.returns-then-s-i-4
-returns-then-s-i-4 c = let Past : (ℕ → Type 0) = λ k. Seeking c.args.b c.args.s.now c.args.from (c.loop-i.i + k) in
-    let past1 : (Past 1) = past c.loop-i.invariant.0 _ (omega arith) (omega arith) c.if-s-i.false in
-    let past2 : (Past 2) = past past1 _ (omega arith) (omega arith) c.if-s-i-2.false in
-    let past3 : (Past 3) = past past2 _ (omega arith) (omega arith) c.if-s-i-3.false in
-    found past3 (omega arith) c.if-s-i-4.true
+returns-then-s-i-4 c =
+    found (past3 c.args.b c.args.s.now c.args.from c.loop-i.i c.loop-i.invariant.0 (omega arith) c.if-s-i.false c.if-s-i-2.false c.if-s-i-3.false) (omega arith) c.if-s-i-4.true
 
 pub loop-i-preserved : goal.loop-i-preserved
-loop-i-preserved c = let Past : (ℕ → Type 0) = λ k. Seeking c.args.b c.args.s.now c.args.from (c.loop-i.i + k) in
-    let past1 : (Past 1) = past c.loop-i.invariant.0 _ (omega arith) (omega arith) c.if-s-i.false in
-    let past2 : (Past 2) = past past1 _ (omega arith) (omega arith) c.if-s-i-2.false in
-    let past3 : (Past 3) = past past2 _ (omega arith) (omega arith) c.if-s-i-3.false in
-    let past4 : (Past 4) = past past3 _ (omega arith) (omega arith) c.if-s-i-4.false in
-    (past4, omega arith)
+loop-i-preserved c =
+    (past4 c.args.b c.args.s.now c.args.from c.loop-i.i c.loop-i.invariant.0 (omega arith) c.if-s-i.false c.if-s-i-2.false c.if-s-i-3.false c.if-s-i-4.false, omega arith)
 
 pub loop-i-2-init : goal.loop-i-2-init
 loop-i-2-init c = c.loop-i.invariant
