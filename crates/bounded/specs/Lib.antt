@@ -6,3 +6,4 @@ pub mod Fill
 pub mod Sum
 pub mod Folds
 pub mod Shift
+pub mod Made

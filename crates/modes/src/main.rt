@@ -19,21 +19,16 @@ fn rule(mode: u64) -> bool
 fn digit(mode: u64) -> u8
     ensures { result ≡ digit_of mode }
 {
-    if rule(mode) {
-        return 49;
-    }
-    48
+    b'0' + u8::from(rule(mode))
 }
 
 // All lines: each begins with its digit, and a line feed follows.
 fn text() -> [u8; 512]
     ensures { result ≡ printed }
 {
-    let mut lines = [10u8; 512];
-    let mut mode = 0;
-    while mode < 256 {
+    let mut lines = [b'\n'; 512];
+    for mode in 0..256 {
         lines[2 * mode] = digit(mode as u64);
-        mode += 1;
     }
     lines
 }

@@ -10,51 +10,34 @@ use state::{Estate, Object, Table};
 fn pages_on(o: Object, a: u64) -> u8
     ensures { result ≡ pages_on a o }
 {
-    if o.account as u64 == a {
-        return o.pages;
-    }
-    0
+    if o.account as u64 == a { o.pages } else { 0 }
 }
 
 // The pages of an estate on an account.
 fn estate_pages(e: Estate, a: u64) -> u16
     ensures { result ≡ estate_pages a e }
 {
-    let p = pages_on(e.objects[0], a) as u16;
-    let q = p + pages_on(e.objects[1], a) as u16;
-    let r = q + pages_on(e.objects[2], a) as u16;
-    let s = r + pages_on(e.objects[3], a) as u16;
-    let t = s + pages_on(e.objects[4], a) as u16;
-    let u = t + pages_on(e.objects[5], a) as u16;
-    let v = u + pages_on(e.objects[6], a) as u16;
-    v + pages_on(e.objects[7], a) as u16
+    let mut pages = 0;
+    for o in e.objects {
+        pages += u16::from(pages_on(o, a));
+    }
+    pages
 }
 
-// The figure of an account: the pages of all objects on it.
+// The figure of an account: the pages of all objects on it. One sum for both would take a closure and two number types for three lines.
 pub fn pages_of(t: Table, a: u64) -> u32
     ensures { result ≡ pages_of t a }
 {
-    let p = estate_pages(t.estates[0], a) as u32;
-    let q = p + estate_pages(t.estates[1], a) as u32;
-    let r = q + estate_pages(t.estates[2], a) as u32;
-    r + estate_pages(t.estates[3], a) as u32
+    let mut pages = 0;
+    for e in t.estates {
+        pages += u32::from(estate_pages(e, a));
+    }
+    pages
 }
 
 // Whether a set has the account.
 pub fn in_set(set: u8, a: u64) -> bool
     ensures { result ≡ in_set set a }
 {
-    if a == 0 {
-        return set % 2 == 1;
-    }
-    if a == 1 {
-        return set / 2 % 2 == 1;
-    }
-    if a == 2 {
-        return set / 4 % 2 == 1;
-    }
-    if a == 3 {
-        return set / 8 % 2 == 1;
-    }
-    false
+    a < 4 && (set >> a) % 2 == 1
 }

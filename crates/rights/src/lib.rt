@@ -33,11 +33,10 @@ impl Rights {
     pub fn legal(mode: u64) -> bool
         ensures { result ≡ legal mode }
     {
-        if mode > 255 {
-            return false;
+        match u8::try_from(mode) {
+            Ok(mode) => mode_table()[usize::from(mode)] == 1,
+            Err(_) => false,
         }
-        let modes = mode_table();
-        modes[mode as usize] == 1
     }
 
     // Whether a capability of this mode grants the wanted rights: it is positive and covers them all.

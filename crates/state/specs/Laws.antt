@@ -3,3 +3,4 @@ pub mod Extent
 pub mod Lookup
 pub mod Passwords
 pub mod Pages
+pub mod Found

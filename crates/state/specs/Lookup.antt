@@ -1,5 +1,5 @@
 -- What is looked up in the object table.
-use Rattle.std.specs.Prelude.{ℕ, ◌+◌, Bool, not, cond, ◌&&◌, ◌||◌, leb, ltb, eqb}
+use Rattle.std.specs.Prelude.{ℕ, ◌+◌, Bool, not, cond, Option, Some, None, ◌&&◌, ◌||◌, leb, ltb, eqb}
 use Rattle.bounded.specs.Search.{first}
 use Rattle.rights.specs.Modes.{pdx}
 use Rattle.state.specs.Places.{free_object, object_at, password_at, estate_of}
@@ -11,6 +11,10 @@ use Rattle.state.specs.declared.Table.{Table}
 -- the object stands, and the page is its base, the first of its run
 abbrev pub has_base : ℕ → Object → Bool
 has_base page o = not (free o) && eqb o.base page
+
+-- a place below the bound is found; the bound itself, or more, stands for none
+abbrev pub found : ℕ → ℕ → Option ℕ
+found n k = cond (ltb k n) (Some k) None
 
 -- the object of an estate that passes a test, a free one where there is none; and its place, 8 where there is none
 abbrev pub object_where : (Object → Bool) → Estate → Object

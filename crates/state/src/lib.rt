@@ -1,7 +1,8 @@
 // The state of the monitor: the object table, the protection domains and the accounts.
 //
 // A struct by value, with a fixed number of places in each array. A place for an object with 0 pages is free, a place for a
-// password with the word 0 is free, and a registration with the password 0 is none.
+// password with the word 0 is free, and a registration with the password 0 is none. A count stands beside an array, since nothing is allocated
+// and the image has both (docs/IMAGE.md).
 #![tactic(auto)]
 
 pub mod estates;
@@ -10,21 +11,21 @@ pub mod objects;
 pub mod tables;
 
 // A capability as a slot or a registration holds it: the page it names and the password it shows.
-#[derive(Clone, Copy)]
+#[derive(Clone, Copy, Default)]
 pub struct Capability {
     pub page: u8,
     pub password: u64,
 }
 
 // An ordinary password of an object with its mode.
-#[derive(Clone, Copy)]
+#[derive(Clone, Copy, Default)]
 pub struct Password {
     pub word: u64,
     pub mode: u8,
 }
 
 // A PDX registration: its password, its Clist capability, and the entries, of which the first `count` stand.
-#[derive(Clone, Copy)]
+#[derive(Clone, Copy, Default)]
 pub struct Registration {
     pub password: u64,
     pub list: Capability,
@@ -33,7 +34,7 @@ pub struct Registration {
 }
 
 // A run of pages, named by the first of them, on the account that it is charged to.
-#[derive(Clone, Copy)]
+#[derive(Clone, Copy, Default)]
 pub struct Object {
     pub base: u8,
     pub pages: u8,
@@ -55,7 +56,7 @@ pub struct Table {
 }
 
 // The slots of a protection domain, of which the first `count` stand, with its locks.
-#[derive(Clone, Copy)]
+#[derive(Clone, Copy, Default)]
 pub struct Frame {
     pub slots: [Capability; 8],
     pub count: u8,

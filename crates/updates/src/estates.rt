@@ -1,44 +1,29 @@
 // An estate with an object more, less or another, and the parts of a state put back.
 ghost use Rattle.std.specs.Prelude.{◌≡◌};
 ghost use Rattle.state.specs.Places.{empty_state};
-ghost use Rattle.state.specs.Lookup.{place_above};
+ghost use Rattle.state.specs.Lookup.{found, place_above};
 ghost use Rattle.state.specs.Update.{with_object, insert_object, remove_object, with_estate, with_domain};
 
 use crate::frames::empty_frame;
 use state::objects::free_object;
 use state::{Accounts, Domain, Estate, Object, State, Table};
 
-// The place for a new object with the base: that of the first object with a higher base, or else the first free one.
-fn place_above(e: Estate, base: u8) -> usize
-    ensures { result ≡ place_above e base }
+// The place for a new object with the base: that of the first object with a higher base, or else the first free one; none in a full estate.
+fn place_above(e: Estate, base: u8) -> Option<usize>
+    ensures { result ≡ found 8 (place_above e base) }
 {
-    let mut k = 0;
-    while k < 8 {
-        let o = e.objects[k];
-        if (o.pages == 0) | (base < o.base) {
-            return k;
-        }
-        k += 1;
-    }
-    8
+    e.objects.iter().position(|o| o.pages == 0 || base < o.base)
 }
 
 // An object more, before the first with a higher base. Where there is no room, the last gives way, or the new one finds no place.
 pub fn insert_object(e: Estate, o: Object) -> Estate
     ensures { result ≡ insert_object e o }
 {
-    let at = place_above(e, o.base);
-    if 8 <= at {
-        return e;
-    }
     let mut r = e;
-    let mut k = 7;
-    while at < k {
-        let x = r.objects[k - 1];
-        r.objects[k] = x;
-        k -= 1;
+    if let Some(at) = place_above(e, o.base) {
+        r.objects.copy_within(at..7, at + 1);
+        r.objects[at] = o;
     }
-    r.objects[at] = o;
     r
 }
 
@@ -46,21 +31,16 @@ pub fn insert_object(e: Estate, o: Object) -> Estate
 pub fn remove_object(e: Estate, at: usize) -> Estate
     ensures { result ≡ remove_object e at }
 {
-    if 8 <= at {
-        return e;
-    }
     let mut r = e;
-    let mut k = at;
-    while k < 7 {
-        let o = r.objects[k + 1];
-        r.objects[k] = o;
-        k += 1;
+    if at < 8 {
+        r.objects.copy_within(at + 1..8, at);
+        r.objects[7] = free_object();
     }
-    r.objects[7] = free_object();
     r
 }
 
-// Another object at a place. Past the last place nothing changes.
+// Another object at a place. Past the last place nothing changes. `with_estate` and `with_domain` are apart from this, since each names the
+// field that it writes; what they share is the test and one line.
 pub fn with_object(e: Estate, k: usize, o: Object) -> Estate
     ensures { result ≡ with_object e k o }
 {
@@ -98,22 +78,22 @@ pub fn with_domain(s: State, d: usize, m: Domain) -> State
     r
 }
 
-// No object, no slot, and no account that may be charged.
+// No object, no slot, and no account that may be charged. Written out: with `State::default()` the proof that it is `empty_state` stays open.
 pub fn empty_state() -> State
     ensures { result ≡ empty_state }
 {
-    let e = Estate {
-        objects: [free_object(); 8],
-    };
-    let f = empty_frame();
-    let m = Domain {
-        active: f,
-        saved: [f; 4],
-        depth: 0,
-    };
+    let frame = empty_frame();
     State {
-        table: Table { estates: [e; 4] },
-        domains: [m; 4],
+        table: Table {
+            estates: [Estate {
+                objects: [free_object(); 8],
+            }; 4],
+        },
+        domains: [Domain {
+            active: frame,
+            saved: [frame; 4],
+            depth: 0,
+        }; 4],
         accounts: Accounts {
             limits: [0; 4],
             sets: [0; 4],

@@ -1,9 +1,9 @@
-use Rattle.std.proofs.Common.{rules}
+use Rattle.std.proofs.Common.{arith}
 use Rattle.rights.specs.Laws.{table_legal, above_illegal}
 use Rattle.rights.proofs.Rights.legal.Goals as goal
 
-pub returns-then-mode-gt255 : goal.returns-then-mode-gt255
-returns-then-mode-gt255 c = above_illegal c.args.mode (search rules)
+pub returns-in-Ok : goal.returns-in-Ok
+returns-in-Ok c = rw (c.mode_table.ensures, c.from.ensures, c.in-Ok.ensures.1) (table_legal c.args.mode c.in-Ok.ensures.0)
 
-pub returns : goal.returns
-returns c = rw c.mode_table-modes.ensures (table_legal c.args.mode (search rules))
+pub returns-in-Err : goal.returns-in-Err
+returns-in-Err c = above_illegal c.args.mode (omega (arith, c.in-Err.ensures))

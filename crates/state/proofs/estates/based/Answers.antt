@@ -1,13 +1,20 @@
-use mathlib.Core.Path.{refl}
-use borrow.Author.Tests.{lt-ltb, le-ltb}
-use Rattle.state.specs.Lookup.{based, place_based}
-use Rattle.bounded.specs.Place.{by_place}
+use mathlib.Core.Path.{◌∙◌, sym}
+use Rattle.bounded.specs.Search.{start, next, stop, over}
+use Rattle.state.specs.Lookup.{based}
 use Rattle.state.proofs.estates.based.Goals as goal
 
-pub returns-then-k-ge8 : goal.returns-then-k-ge8
-unfolding based place_based
-returns-then-k-ge8 c = rw (by_place _ _ _ 0 8 8 refl, ← c.place_based-k.ensures, le-ltb _ _ c.if-k-ge8.true) c.free_object.ensures
+pub loop-o-init : goal.loop-o-init
+unfolding based
+loop-o-init c = start
+
+pub returns-then-has_base : goal.returns-then-has_base
+unfolding based
+returns-then-has_base c = stop c.loop-o.invariant c.loop-o-test.true (sym c.has_base.ensures ∙ c.if-has_base.true)
+
+pub loop-o-preserved : goal.loop-o-preserved
+unfolding based
+loop-o-preserved c = next c.loop-o.invariant c.loop-o-test.true (sym c.has_base.ensures ∙ c.if-has_base.false)
 
 pub returns : goal.returns
-unfolding based place_based
-returns c = rw (by_place _ _ _ 0 8 8 refl, ← c.place_based-k.ensures, lt-ltb _ _ c.if-k-ge8.false)
+unfolding based
+returns c = c.free_object.ensures ∙ over c.loop-o.invariant c.loop-o-test.false

@@ -1,20 +1,13 @@
-use mathlib.Core.Path.{◌∙◌, sym}
-use Rattle.bounded.specs.Search.{start, next, stop, over}
-use Rattle.state.specs.Lookup.{place_based}
+use Rattle.std.proofs.Common.{◌∙◌, rules, tests}
+use Rattle.std.proofs.lemmas.Iterator.{YieldsList-from_slice}
+use Rattle.std.proofs.lemmas.Iterator.Search.{position_from_yields_List}
+use Rattle.state.specs.Places.{no_object}
+use Rattle.state.specs.Laws.Found.{position_found}
+use Rattle.state.specs.Lookup.{has_base, place_based}
 use Rattle.state.proofs.estates.place_based.Goals as goal
-
-pub loop-k-init : goal.loop-k-init
-unfolding place_based
-loop-k-init c = start
-
-pub returns-then-has_base : goal.returns-then-has_base
-unfolding place_based
-returns-then-has_base c = stop c.loop-k.invariant c.loop-k-test.true (sym c.has_base.ensures ∙ c.if-has_base.true)
-
-pub loop-k-preserved : goal.loop-k-preserved
-unfolding place_based
-loop-k-preserved c = next c.loop-k.invariant c.loop-k-test.true (sym c.has_base.ensures ∙ c.if-has_base.false)
 
 pub returns : goal.returns
 unfolding place_based
-returns c = over c.loop-k.invariant c.loop-k-test.false
+returns c =
+    position_from_yields_List (has_base c.args.page) _ _ _ c.position.ensures.ran (YieldsList-from_slice c.args.e.objects cc) (λ x b q k. search (rules, tests))
+    ∙ position_found (has_base c.args.page) c.args.e.objects 8 no_object (search rules)

@@ -1,24 +1,14 @@
-use borrow.Author.Tests.{eq-eqb, ne_eqb}
-use Rattle.bounded.specs.Search.{first}
+use Rattle.std.proofs.Common.{◌∙◌, rules, tests, eqb}
+use Rattle.std.proofs.lemmas.Iterator.{YieldsList-from_slice}
+use Rattle.std.proofs.lemmas.Iterator.Search.{position_from_yields_List}
+use Rattle.state.specs.Places.{no_password}
+use Rattle.state.specs.Laws.Found.{position_found}
 use Rattle.state.specs.Lookup.{place_of}
 use Rattle.state.proofs.objects.place_of.Goals as goal
 
-pub returns-then-p-word : goal.returns-then-p-word
-unfolding place_of first
-returns-then-p-word c = rw (eq-eqb _ _ c.if-p-word.true)
-
-pub returns-then-q-word : goal.returns-then-q-word
-unfolding place_of first
-returns-then-q-word c = rw (ne_eqb _ _ c.if-p-word.false, eq-eqb _ _ c.if-q-word.true)
-
-pub returns-then-r-word : goal.returns-then-r-word
-unfolding place_of first
-returns-then-r-word c = rw (ne_eqb _ _ c.if-p-word.false, ne_eqb _ _ c.if-q-word.false, eq-eqb _ _ c.if-r-word.true)
-
-pub returns-then-s-word : goal.returns-then-s-word
-unfolding place_of first
-returns-then-s-word c = rw (ne_eqb _ _ c.if-p-word.false, ne_eqb _ _ c.if-q-word.false, ne_eqb _ _ c.if-r-word.false, eq-eqb _ _ c.if-s-word.true)
-
 pub returns : goal.returns
-unfolding place_of first
-returns c = rw (ne_eqb _ _ c.if-p-word.false, ne_eqb _ _ c.if-q-word.false, ne_eqb _ _ c.if-r-word.false, ne_eqb _ _ c.if-s-word.false)
+unfolding place_of
+returns c =
+    position_from_yields_List (λ p. eqb p.word c.args.word) _ _ _ c.position.ensures.ran
+    (YieldsList-from_slice c.args.o.passwords cc) (λ x b q k. search (rules, tests))
+    ∙ position_found (λ p. eqb p.word c.args.word) c.args.o.passwords 4 no_password (search rules)

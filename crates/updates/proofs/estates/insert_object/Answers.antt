@@ -1,32 +1,20 @@
-use mathlib.Core.Path.{ap}
-use native.Mathlib.Omega.{arith}
-use borrow.Author.Rules.{rules}
+use Rattle.std.proofs.Common.{◌∙◌, ap, sym, arith, rules}
 use Rattle.state.specs.Places.{no_object}
 use Rattle.state.specs.Update.{insert_object}
-use Rattle.updates.proofs.Shifts.{last_place, move_back, filled, not_put}
+use Rattle.state.specs.Laws.Found.{found_some, found_none}
+use Rattle.updates.proofs.Shifts.{filled, not_put}
 use Rattle.updates.proofs.estates.insert_object.Goals as goal
 
-pub returns-then-at-ge8 : goal.returns-then-at-ge8
+pub returns-in-Some : goal.returns-in-Some
 unfolding insert_object
-returns-then-at-ge8 c = rw (← c.place_above-at.ensures)
+returns-in-Some c = let f = found_some 8 _ _ (sym c.place_above.ensures ∙ c.in-Some.is) in
+    rw f.1
     (ap (λ l. record { objects = l })
-    (not_put no_object _ _ 7 _ c.if-at-ge8.true c.well_formed.0.1.1.0.1.0.1))
+    (filled no_object c.args.e.objects _ _ 7 c.args.o (omega (arith, f.0, f.1)) (search rules) c.copy_within.ensures.len
+    c.copy_within.ensures.by_index.0 c.copy_within.ensures.by_index.1))
 
-pub loop-k-init : goal.loop-k-init
-loop-k-init c = last_place no_object _ _ 7 (omega (arith, c.if-at-ge8.false))
-
-pub offset_bounds-r-k : goal.offset_bounds-r-k
-offset_bounds-r-k c = search rules
-
-pub bounds-r-k : goal.bounds-r-k
-bounds-r-k c = omega (arith, c.loop-k.invariant.to)
-
-pub loop-k-preserved : goal.loop-k-preserved
-loop-k-preserved c = let n = c.well_formed.0.1.1.0.1.0.1 in
-    move_back no_object _ _ 7 _ _ c.loop-k.invariant c.loop-k-test.true (omega (arith, n))
-
-pub returns : goal.returns
+pub returns-in_default : goal.returns-in_default
 unfolding insert_object
-returns c = rw (← c.place_above-at.ensures)
-    (ap (λ l. record { objects = l })
-    (filled no_object _ _ 7 _ _ _ c.loop-k.invariant c.loop-k-test.false c.well_formed.0.1.1.0.1.0.1))
+returns-in_default c =
+    ap (λ l. record { objects = l })
+    (not_put no_object c.args.e.objects _ 7 c.args.o (found_none 8 _ (sym c.place_above.ensures ∙ c.in_default.is)) (search rules))

@@ -1,19 +1,15 @@
-use Rattle.bounded.specs.Search.{start, next, stop, over}
+use Rattle.std.proofs.Common.{◌∙◌, ◌||◌, ltb, rules, tests}
+use Rattle.std.proofs.lemmas.Iterator.{YieldsList-from_slice}
+use Rattle.std.proofs.lemmas.Iterator.Search.{position_from_yields_List}
+use Rattle.state.specs.Places.{no_object}
+use Rattle.state.specs.Extent.{free}
+use Rattle.state.specs.Laws.Found.{position_found}
 use Rattle.state.specs.Lookup.{place_above}
 use Rattle.updates.proofs.estates.place_above.Goals as goal
 
-pub loop-k-init : goal.loop-k-init
-unfolding place_above
-loop-k-init c = start
-
-pub returns-then-o-base : goal.returns-then-o-base
-unfolding place_above
-returns-then-o-base c = stop c.loop-k.invariant c.loop-k-test.true c.if-o-base.true
-
-pub loop-k-preserved : goal.loop-k-preserved
-unfolding place_above
-loop-k-preserved c = next c.loop-k.invariant c.loop-k-test.true c.if-o-base.false
-
 pub returns : goal.returns
 unfolding place_above
-returns c = over c.loop-k.invariant c.loop-k-test.false
+returns c =
+    position_from_yields_List (λ o. free o || ltb c.args.base o.base) _ _ _ c.position.ensures.ran (YieldsList-from_slice c.args.e.objects cc)
+    (λ x b q k. search (rules, tests))
+    ∙ position_found (λ o. free o || ltb c.args.base o.base) c.args.e.objects 8 no_object (search rules)

@@ -1,46 +1,22 @@
-use borrow.Author.Tests.{lt-ltb, le-ltb}
-use borrow.Author.Rules.{rules}
+use Rattle.std.proofs.Common.{ap, ◌+◌, arith, rules, lt-ltb, le-ltb}
+use Rattle.state.specs.Places.{no_capability}
 use Rattle.state.specs.Update.{insert_slot}
+use Rattle.updates.proofs.Shifts.{filled, not_put}
 use Rattle.updates.proofs.frames.insert_slot.Goals as goal
 
-pub returns-then-n-ge8 : goal.returns-then-n-ge8
+pub returns-then-f-ge8 : goal.returns-then-f-ge8
 unfolding insert_slot
-returns-then-n-ge8 c = rw (le-ltb _ _ c.if-n-ge8.true)
+returns-then-f-ge8 c = rw (le-ltb _ _ c.if-f-ge8.true)
 
-pub slot_in-requires : goal.slot_in-requires
+pub returns-then-at-lt8 : goal.returns-then-at-lt8
 unfolding insert_slot
-slot_in-requires c = search rules
+returns-then-at-lt8 c = rw (lt-ltb _ _ c.if-f-ge8.false, ← c.from-at.ensures)
+    (ap (λ l. record { slots = l; count = c.args.f.count + 1; locked = c.args.f.locked; whole = c.args.f.whole })
+    (filled no_capability c.args.f.slots _ _ 7 c.args.c (omega (arith, c.if-at-lt8.true)) (search rules) c.copy_within.ensures.len
+    c.copy_within.ensures.by_index.0 c.copy_within.ensures.by_index.1))
 
-pub slot_in-requires-2 : goal.slot_in-requires-2
+pub returns-else-at-lt8 : goal.returns-else-at-lt8
 unfolding insert_slot
-slot_in-requires-2 c = search rules
-
-pub slot_in-requires-3 : goal.slot_in-requires-3
-unfolding insert_slot
-slot_in-requires-3 c = search rules
-
-pub slot_in-requires-4 : goal.slot_in-requires-4
-unfolding insert_slot
-slot_in-requires-4 c = search rules
-
-pub slot_in-requires-5 : goal.slot_in-requires-5
-unfolding insert_slot
-slot_in-requires-5 c = search rules
-
-pub slot_in-requires-6 : goal.slot_in-requires-6
-unfolding insert_slot
-slot_in-requires-6 c = search rules
-
-pub slot_in-requires-7 : goal.slot_in-requires-7
-unfolding insert_slot
-slot_in-requires-7 c = search rules
-
-pub slot_in-requires-8 : goal.slot_in-requires-8
-unfolding insert_slot
-slot_in-requires-8 c = search rules
-
-pub returns : goal.returns
-unfolding insert_slot
-returns c = rw (lt-ltb _ _ c.if-n-ge8.false, c.slot_in.ensures, c.slot_in-2.ensures, c.slot_in-3.ensures)
-    (rw (c.slot_in-4.ensures, c.slot_in-5.ensures, c.slot_in-6.ensures)
-    (rw (c.slot_in-7.ensures, c.slot_in-8.ensures)))
+returns-else-at-lt8 c = rw (lt-ltb _ _ c.if-f-ge8.false, ← c.from-at.ensures)
+    (ap (λ l. record { slots = l; count = c.args.f.count + 1; locked = c.args.f.locked; whole = c.args.f.whole })
+    (not_put no_capability c.args.f.slots _ 7 c.args.c c.if-at-lt8.false (search rules)))

@@ -1,33 +1,13 @@
-use Prim.Native.Nat.{min}
-use mathlib.Core.Path.{◌≡◌}
-use native.Mathlib.Omega.{arith}
-use borrow.Author.Tests.{eq-eqb, ne_eqb}
-use borrow.Author.Rules.{rules}
+use Rattle.std.proofs.Common.{◌∙◌, ◌≡◌, min, arith, eq-eqb, ne_eqb}
 use Rattle.state.specs.Update.{merge_list}
+use Rattle.updates.proofs.frames.merge_list.Goals.{then-f-eq0, else-f-eq0}
 use Rattle.updates.proofs.frames.merge_list.Goals as goal
-
-pub insert_slot-requires : goal.insert_slot-requires
-unfolding merge_list
-insert_slot-requires c = search rules
-
-pub returns-then-n-ne0 : goal.returns-then-n-ne0
-unfolding merge_list
-returns-then-n-ne0 c = rw (ne_eqb _ _ c.if-n-ne0.true) c.insert_slot.ensures
-
-pub insert_slot-requires-then-f-eq0 : goal.insert_slot-requires-then-f-eq0
-unfolding merge_list
-insert_slot-requires-then-f-eq0 c = search rules
-
-pub returns-then-f-eq0 : goal.returns-then-f-eq0
-unfolding merge_list
-returns-then-f-eq0 c = let h : min 1 c.args.f.count ≡ 0 = omega arith in
-    rw (eq-eqb _ _ c.if-n-ne0.false, h) c.insert_slot-then-f-eq0.ensures
-
-pub insert_slot-requires-2 : goal.insert_slot-requires-2
-unfolding merge_list
-insert_slot-requires-2 c = search rules
 
 pub returns : goal.returns
 unfolding merge_list
-returns c = let h : min 1 c.args.f.count ≡ 1 = omega arith in
-    rw (eq-eqb _ _ c.if-n-ne0.false, h) c.insert_slot-2.ensures
+returns c = elim c.if-f-eq0.branch [
+  | then-f-eq0 w ↦
+      let h : c.if-f-eq0.at ≡ min 1 c.args.f.count = omega (arith, w.at-is, w.min-at.ensures) in
+      c.insert_slot.ensures ∙ rw (eq-eqb _ _ w.if-f-eq0.true, h)
+  | else-f-eq0 w ↦ c.insert_slot.ensures ∙ rw (ne_eqb _ _ w.if-f-eq0.false, w.at-is)
+]

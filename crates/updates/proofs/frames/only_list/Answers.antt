@@ -1,7 +1,6 @@
-use borrow.Author.Rules.{rules}
 use Rattle.state.specs.Update.{only_list}
 use Rattle.updates.proofs.frames.only_list.Goals as goal
 
 pub returns : goal.returns
 unfolding only_list
-returns c = search rules
+returns c = rw c.empty_frame-f.ensures

@@ -1,44 +1,23 @@
-use borrow.Author.Tests.{lt-ltb, le-ltb}
-use borrow.Author.Rules.{rules}
+use Rattle.std.proofs.Common.{ap, ◌≡◌, ◌-◌, arith, rules, lt-ltb, le-ltb}
+use Rattle.state.specs.Places.{no_capability}
 use Rattle.state.specs.Update.{remove_slot}
+use Rattle.updates.proofs.Shifts.{closed, no_gap}
 use Rattle.updates.proofs.frames.remove_slot.Goals as goal
 
-pub returns-then-n-at : goal.returns-then-n-at
+pub returns-then-f-at : goal.returns-then-f-at
 unfolding remove_slot
-returns-then-n-at c = rw (le-ltb _ _ c.if-n-at.true)
+returns-then-f-at c = rw (le-ltb _ _ c.if-f-at.true)
 
-pub slot_out-requires : goal.slot_out-requires
+pub returns-then-at-lt8 : goal.returns-then-at-lt8
 unfolding remove_slot
-slot_out-requires c = search rules
+returns-then-at-lt8 c = let z : c.default.result ≡ no_capability = search rules in
+    rw (lt-ltb _ _ c.if-f-at.false, ← c.from-at.ensures, z)
+    (ap (λ l. record { slots = l; count = c.args.f.count - 1; locked = c.args.f.locked; whole = c.args.f.whole })
+    (closed no_capability c.args.f.slots _ _ 7 no_capability (omega (arith, c.if-at-lt8.true)) (search rules) c.copy_within.ensures.len
+    c.copy_within.ensures.by_index.0 c.copy_within.ensures.by_index.1))
 
-pub slot_out-requires-2 : goal.slot_out-requires-2
+pub returns-else-at-lt8 : goal.returns-else-at-lt8
 unfolding remove_slot
-slot_out-requires-2 c = search rules
-
-pub slot_out-requires-3 : goal.slot_out-requires-3
-unfolding remove_slot
-slot_out-requires-3 c = search rules
-
-pub slot_out-requires-4 : goal.slot_out-requires-4
-unfolding remove_slot
-slot_out-requires-4 c = search rules
-
-pub slot_out-requires-5 : goal.slot_out-requires-5
-unfolding remove_slot
-slot_out-requires-5 c = search rules
-
-pub slot_out-requires-6 : goal.slot_out-requires-6
-unfolding remove_slot
-slot_out-requires-6 c = search rules
-
-pub slot_out-requires-7 : goal.slot_out-requires-7
-unfolding remove_slot
-slot_out-requires-7 c = search rules
-
-pub slot_out-requires-8 : goal.slot_out-requires-8
-unfolding remove_slot
-slot_out-requires-8 c = search rules
-
-pub returns : goal.returns
-unfolding remove_slot
-returns c = rw (lt-ltb _ _ c.if-n-at.false) (cc)
+returns-else-at-lt8 c = rw (lt-ltb _ _ c.if-f-at.false, ← c.from-at.ensures)
+    (ap (λ l. record { slots = l; count = c.args.f.count - 1; locked = c.args.f.locked; whole = c.args.f.whole })
+    (no_gap no_capability c.args.f.slots _ 7 no_capability c.if-at-lt8.false (search rules)))

@@ -1,23 +1,19 @@
-use mathlib.Core.Path.{ap}
-use native.Mathlib.Omega.{arith}
+use Rattle.std.proofs.Common.{◌≡◌, ◌∙◌, ap, sym, arith, rules}
 use Rattle.state.specs.Places.{no_password}
 use Rattle.state.specs.Update.{with_passwords}
-use Rattle.updates.proofs.Shifts.{no_gap}
+use Rattle.state.specs.Laws.Found.{found_some, found_none}
+use Rattle.updates.proofs.Shifts.{closed, no_gap}
 use Rattle.updates.proofs.objects.without_password.Goals as goal
 
-pub returns-then-at-eq0 : goal.returns-then-at-eq0
-returns-then-at-eq0 c = rw c.if-at-eq0.true c.with_passwords.ensures
+pub returns-in-Some : goal.returns-in-Some
+returns-in-Some c = let f = found_some 4 _ _ (sym c.place_of.ensures ∙ c.in-Some.is) in
+    let z : c.default.result ≡ no_password = search rules in
+    rw (f.1, z)
+    (ap (with_passwords c.args.o)
+    (closed no_password c.args.o.passwords _ _ 3 no_password (omega (arith, f.0, f.1)) (search rules) c.copy_within.ensures.len
+    c.copy_within.ensures.by_index.0 c.copy_within.ensures.by_index.1))
 
-pub returns-then-at-eq1 : goal.returns-then-at-eq1
-returns-then-at-eq1 c = rw c.if-at-eq1.true c.with_passwords-then-at-eq1.ensures
-
-pub returns-then-at-eq2 : goal.returns-then-at-eq2
-returns-then-at-eq2 c = rw c.if-at-eq2.true c.with_passwords-then-at-eq2.ensures
-
-pub returns-then-at-eq3 : goal.returns-then-at-eq3
-returns-then-at-eq3 c = rw c.if-at-eq3.true c.with_passwords-then-at-eq3.ensures
-
-pub returns : goal.returns
-returns c = ap (with_passwords c.args.o)
-    (no_gap no_password _ c.args.at 3 no_password (omega (arith, c.if-at-eq3.false, c.if-at-eq2.false, c.if-at-eq1.false, c.if-at-eq0.false))
-    c.well_formed.0.1.1.1.1.1.0.1.0.1)
+pub returns-in_default : goal.returns-in_default
+returns-in_default c =
+    ap (with_passwords c.args.o)
+    (no_gap no_password c.args.o.passwords _ 3 no_password (found_none 4 _ (sym c.place_of.ensures ∙ c.in_default.is)) (search rules))

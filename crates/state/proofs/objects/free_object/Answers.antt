@@ -1,4 +1,0 @@
-use Rattle.state.proofs.objects.free_object.Goals as goal
-
-pub returns : goal.returns
-returns c = cc
