@@ -1,7 +1,7 @@
 // Clists: the part of the store that is one, and whether a capability opens it.
 #![tactic(auto)]
 
-ghost use Rattle.std.specs.Prelude.{◌≡◌, cond};
+ghost use Rattle.std.specs.Prelude.{◌≡◌, ◌<◌, cond};
 ghost use Rattle.rights.specs.Modes.{read, grants};
 ghost use Rattle.state.specs.Places.{estate_at};
 ghost use Rattle.state.specs.Lookup.{ordinary_mode};
@@ -64,91 +64,31 @@ fn opened_by(o: Object, password: u64) -> u8
     0
 }
 
-// The pages of the object of the first estate that a capability names and opens, 0 where there is none. One function for each estate:
-// the estate is then copied once for its loop, where one handed over as a parameter is copied twice.
-fn opened_first(t: Table, c: Capability) -> u8
-    ensures { result ≡ opened_in (estate_at t 0) c }
+// The pages of the object of the estate of domain D that a capability names and opens, 0 where there is none. The place of the estate is
+// a constant: it is then copied once for the loop, where one handed over by value or lent is copied twice, or with the whole table.
+fn opened_in<const D: usize>(t: Table, c: Capability) -> u8
+    requires { D < 4 }
+    ensures { result ≡ opened_in (estate_at t D) c }
 {
-    let e = t.estates[0];
+    let e = t.estates[D];
     let page = c.page as u64;
-    let mut k = 0;
-    while k < 8 {
-        let o = e.objects[k];
-        if has_base(o, page) {
-            return opened_by(o, c.password);
+    for o in &e.objects {
+        if has_base(*o, page) {
+            return opened_by(*o, c.password);
         }
-        k += 1;
     }
     0
 }
 
-// The same in the second estate.
-fn opened_second(t: Table, c: Capability) -> u8
-    ensures { result ≡ opened_in (estate_at t 1) c }
-{
-    let e = t.estates[1];
-    let page = c.page as u64;
-    let mut k = 0;
-    while k < 8 {
-        let o = e.objects[k];
-        if has_base(o, page) {
-            return opened_by(o, c.password);
-        }
-        k += 1;
-    }
-    0
-}
-
-// The same in the third estate.
-fn opened_third(t: Table, c: Capability) -> u8
-    ensures { result ≡ opened_in (estate_at t 2) c }
-{
-    let e = t.estates[2];
-    let page = c.page as u64;
-    let mut k = 0;
-    while k < 8 {
-        let o = e.objects[k];
-        if has_base(o, page) {
-            return opened_by(o, c.password);
-        }
-        k += 1;
-    }
-    0
-}
-
-// The same in the fourth estate.
-fn opened_fourth(t: Table, c: Capability) -> u8
-    ensures { result ≡ opened_in (estate_at t 3) c }
-{
-    let e = t.estates[3];
-    let page = c.page as u64;
-    let mut k = 0;
-    while k < 8 {
-        let o = e.objects[k];
-        if has_base(o, page) {
-            return opened_by(o, c.password);
-        }
-        k += 1;
-    }
-    0
-}
-
-// The pages of the Clist that a capability opens, 0 where it is not live.
+// The pages of the Clist that a capability opens. 0 where it is not live is no flag: the list is then empty, and is searched like any other.
 pub fn opened(t: Table, c: Capability) -> u8
     ensures { result ≡ cond (live t c) (named t c).pages 0 }
 {
-    let d = c.page / 32;
-    if d == 0 {
-        return opened_first(t, c);
+    match c.page / 32 {
+        0 => opened_in::<0>(t, c),
+        1 => opened_in::<1>(t, c),
+        2 => opened_in::<2>(t, c),
+        3 => opened_in::<3>(t, c),
+        _ => 0,
     }
-    if d == 1 {
-        return opened_second(t, c);
-    }
-    if d == 2 {
-        return opened_third(t, c);
-    }
-    if d == 3 {
-        return opened_fourth(t, c);
-    }
-    0
 }

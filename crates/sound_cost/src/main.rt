@@ -27,7 +27,7 @@ fn registered(base: u8, word: u64) -> Object
     with_registration(add_password(new_object(base, 4, word, 1), 2, 1), g)
 }
 
-// An estate with four objects, on accounts 1 to 3.
+// An estate with four objects, each another, on accounts 1 to 3.
 fn filled(e: Estate, base: u8, word: u64) -> Estate
     requires { base < 112 }
 {
@@ -61,37 +61,19 @@ fn example(word: u64) -> State {
     let t = s.table;
     let e = t.estates[0];
     let m = s.domains[0];
-    let mut d = 0u8;
-    while d < 4 {
+    for d in 0..4u8 {
         s = with_estate(s, d as usize, filled(e, 32 * d, word));
         s = with_domain(s, d as usize, slotted(m, 32 * d, word));
-        d += 1;
     }
     s
 }
 
-// 1 for a test that passed.
-fn counted(passes: bool) -> u64
-    ensures { result ≤ 1 }
-{
-    if passes {
-        return 1;
-    }
-    0
-}
-
 // How many of the tests passed.
-fn passed() -> u64
+fn passed() -> usize
     ensures { result ≤ 1000 }
 {
     let states = [example(7), example(8)];
-    let mut n = 0u64;
-    let mut i = 0;
-    while i < 1000 {
-        n += counted(sound(states[i % 2]));
-        i += 1;
-    }
-    n
+    (0..1000usize).filter(|i| sound(states[*i % 2])).count()
 }
 
 fn main(rt: HostRuntime) {

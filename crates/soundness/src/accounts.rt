@@ -8,10 +8,5 @@ use state::Accounts;
 pub fn accounts_ok(x: Accounts) -> bool
     ensures { result ≡ accounts_ok x }
 {
-    let limits = (x.limits[0] <= 128)
-        & (x.limits[1] <= 128)
-        & (x.limits[2] <= 128)
-        & (x.limits[3] <= 128);
-    let sets = (x.sets[0] <= 15) & (x.sets[1] <= 15) & (x.sets[2] <= 15) & (x.sets[3] <= 15);
-    limits & sets
+    x.limits.iter().all(|limit| *limit <= 128) && x.sets.iter().all(|set| *set <= 15)
 }

@@ -1,4 +1,4 @@
--- How far a row of places is filled: the form in which the code tests that the places past a count are zero.
+-- How far a row of places is filled: one test of all places past a count, where the definitions test each.
 use Rattle.std.specs.Prelude.{ℕ, suc, ◌/◌, ◌≡◌, refl, Bool, true, false, not, cond, ◌&&◌, ◌||◌, leb, ltb, eqb}
 use Rattle.std.proofs.Common.{ap, sym, ◌∙◌, arith, leb-true, leb-false, le-leb, ltb-true, ltb-false, lt-ltb, le-ltb, eqb-true}
 use Rattle.std.proofs.Math.Bool.{and-true, and-false}
@@ -66,7 +66,7 @@ reach_within zero (suc m) n = go (zero m) (ltb m n) refl (reach_within zero m n)
     go false false e ih = lt-leb (suc m) n (omega (arith, ltb-false m n e)) ∙ sym (and-false (below m (λ k. ltb k n || zero k)))
 
 -- two tests of all places are one
-below_and : (n : ℕ) (p q : ℕ → Bool) → (below n p && below n q) ≡ below n (λ k. p k && q k)
+pub below_and : (n : ℕ) (p q : ℕ → Bool) → (below n p && below n q) ≡ below n (λ k. p k && q k)
 unfolding below
 below_and ℕ.zero p q = refl
 below_and (suc n) p q = go (below n p) (below n q) (p n) (q n) ∙ rw (below_and n p q)

@@ -1,9 +1,10 @@
-use Rattle.bounded.specs.Every.{below}
-use Rattle.soundness.specs.Sound.{blank, registration_ok}
-use Rattle.soundness.specs.Laws.Reach.{choice, entries_reach}
+use Rattle.soundness.specs.Sound.{registration_ok}
 use Rattle.soundness.proofs.objects.registration_ok.Goals as goal
 
-pub returns : goal.returns
-unfolding registration_ok blank below
-returns c = rw (← entries_reach c.args.o, c.entries_reach.ensures)
-    (rw (c.entry_ok-4.ensures, c.entry_ok-3.ensures, c.entry_ok-2.ensures, c.entry_ok.ensures, choice _ _ _))
+pub returns-then-entries_ok : goal.returns-then-entries_ok
+unfolding registration_ok
+returns-then-entries_ok c = rw (← c.entries_ok.ensures, c.if-entries_ok.true) c.list_ok.ensures
+
+pub returns-else-entries_ok : goal.returns-else-entries_ok
+unfolding registration_ok
+returns-else-entries_ok c = rw (← c.entries_ok.ensures, c.if-entries_ok.false)
