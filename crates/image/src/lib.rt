@@ -12,6 +12,7 @@ use soundness::sound;
 use state::State;
 
 // What an image reads as: whether it is readable, and then its state.
+// No Option: `reading`, which read_image and write_image promise, has the state of an image of the length that is not readable too.
 #[derive(Clone, Copy)]
 pub struct Reading {
     pub readable: bool,

@@ -1,49 +1,29 @@
 // The accounts in their image.
-ghost use Rattle.std.specs.Prelude.{◌≡◌, ◌+◌, ◌≤◌, length, drop};
-ghost use Rattle.codec.specs.Laid.{lay};
 ghost use Rattle.layout.specs.Sizes.{accounts_size};
-ghost use Rattle.layout.specs.Layout.{four_bytes, accounts};
+ghost use Rattle.layout.specs.Layout.{accounts};
+ghost use Rattle.state.specs.Places.{no_accounts};
 
-use crate::numbers::put_byte;
-use crate::sizes::ACCOUNTS_SETS;
+use crate::parts::{Part, load_array, store_array};
+use crate::sizes::{ACCOUNTS, ACCOUNTS_SETS};
 use state::Accounts;
 
-// Four bytes.
-pub fn four_bytes_at(s: &[u8], at: usize) -> [u8; 4]
-    requires { at + 4 ≤ length s.now }
-    ensures { result ≡ four_bytes.get (drop at s.now) }
-{
-    [s[at], s[at + 1], s[at + 2], s[at + 3]]
-}
-
-pub fn put_four_bytes(s: &mut [u8], at: usize, v: [u8; 4])
-    requires { at + 4 ≤ length s.old }
-    ensures { (s.new ≡ lay s.old at (four_bytes.put v)) × four_bytes.fits v }
-{
-    let mut i = 0;
-    while i < 4 {
-        put_byte(s, at + i, v[i]);
-        i += 1;
-    }
-}
-
 // The accounts: the limit of each, then the set of each domain.
-pub fn accounts_at(s: &[u8], at: usize) -> Accounts
-    requires { at + accounts_size ≤ length s.now }
-    ensures { result ≡ accounts.get (drop at s.now) }
-{
-    Accounts {
-        limits: four_bytes_at(s, at),
-        sets: four_bytes_at(s, at + ACCOUNTS_SETS),
-    }
-}
+impl Part for Accounts {
+    const SIZE: usize = ACCOUNTS;
 
-pub fn put_accounts(s: &mut [u8], at: usize, x: Accounts)
-    requires { at + accounts_size ≤ length s.old }
-    ensures { (s.new ≡ lay s.old at (accounts.put x)) × accounts.fits x }
-{
-    let limits = x.limits;
-    put_four_bytes(s, at, limits);
-    let sets = x.sets;
-    put_four_bytes(s, at + ACCOUNTS_SETS, sets);
+    ghost SIZE = { accounts_size };
+
+    ghost layout = { accounts };
+
+    ghost none = { no_accounts };
+
+    fn load(&mut self, bytes: &[u8], at: usize) {
+        load_array(&mut self.limits, bytes, at);
+        load_array(&mut self.sets, bytes, at + ACCOUNTS_SETS);
+    }
+
+    fn store(&self, bytes: &mut [u8], at: usize) {
+        store_array(&self.limits, bytes, at);
+        store_array(&self.sets, bytes, at + ACCOUNTS_SETS);
+    }
 }

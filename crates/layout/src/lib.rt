@@ -4,8 +4,8 @@
 
 mod accounts;
 mod frames;
-mod numbers;
 mod objects;
+mod parts;
 pub mod sizes;
 pub mod states;
 pub mod words;

@@ -1,37 +1,54 @@
 // A state read off a slice of bytes, and written over one.
 ghost use Rattle.std.specs.Prelude.{◌≡◌, length};
 ghost use Rattle.layout.specs.Sizes.{state_size};
+ghost use Rattle.layout.specs.Layout.{state};
 ghost use Rattle.layout.specs.Whole.{state_of, truths_ok, with_state};
+ghost use Rattle.state.specs.Places.{empty_state};
 
-use crate::accounts::{accounts_at, put_accounts};
-use crate::frames::{domains_at, domains_ok, put_domains};
-use crate::objects::{put_table, table_at};
+use crate::parts::{Part, array_ok, load_array, store_array};
 use crate::sizes::{STATE, STATE_ACCOUNTS, STATE_DOMAINS};
-use state::State;
+use state::{Domain, State};
 use updates::estates::empty_state;
 
-// The state of a slice of its length: the object table, the four domains and the accounts. Of another slice, the empty state.
+// A state: the object table, the four domains and the accounts.
+impl Part for State {
+    const SIZE: usize = STATE;
+
+    ghost SIZE = { state_size };
+
+    ghost layout = { state };
+
+    ghost none = { empty_state };
+
+    fn load(&mut self, bytes: &[u8], at: usize) {
+        self.table.load(bytes, at);
+        load_array(&mut self.domains, bytes, at + STATE_DOMAINS);
+        self.accounts.load(bytes, at + STATE_ACCOUNTS);
+    }
+
+    fn store(&self, bytes: &mut [u8], at: usize) {
+        self.table.store(bytes, at);
+        store_array(&self.domains, bytes, at + STATE_DOMAINS);
+        self.accounts.store(bytes, at + STATE_ACCOUNTS);
+    }
+}
+
+// The state of a slice of its length. Of another slice, the empty state.
 pub fn state_of(bytes: &[u8]) -> State
     ensures { result ≡ state_of bytes.now }
 {
-    if bytes.len() != STATE {
-        return empty_state();
+    let mut s = empty_state();
+    if bytes.len() == STATE {
+        s.load(bytes, 0);
     }
-    State {
-        table: table_at(bytes, 0),
-        domains: domains_at(bytes, STATE_DOMAINS),
-        accounts: accounts_at(bytes, STATE_ACCOUNTS),
-    }
+    s
 }
 
 // Whether a slice has the length, and every yes or no in it is 1 or 0.
 pub fn truths_ok(bytes: &[u8]) -> bool
     ensures { result ≡ truths_ok bytes.now }
 {
-    if bytes.len() != STATE {
-        return false;
-    }
-    domains_ok(bytes, STATE_DOMAINS)
+    bytes.len() == STATE && array_ok::<Domain, 4>(bytes, STATE_DOMAINS)
 }
 
 // A state written over a slice of its length, which reads as that state then. Another slice is not touched.
@@ -39,13 +56,7 @@ pub fn put_state(bytes: &mut [u8], s: State)
     ensures bytes_after { bytes.new ≡ with_state bytes.old s }
     ensures bytes_after_2 { length bytes.old ≡ state_size → state_of bytes.new ≡ s }
 {
-    if bytes.len() != STATE {
-        return;
+    if bytes.len() == STATE {
+        s.store(bytes, 0);
     }
-    let table = s.table;
-    put_table(bytes, 0, table);
-    let domains = s.domains;
-    put_domains(bytes, STATE_DOMAINS, domains);
-    let accounts = s.accounts;
-    put_accounts(bytes, STATE_ACCOUNTS, accounts);
 }

@@ -2,20 +2,17 @@
 ghost use Rattle.std.specs.Prelude.{◌≡◌};
 ghost use Rattle.layout.specs.Whole.{words_read, words_put};
 
-use crate::numbers::{put_word, word_at};
+use crate::parts::Part;
 
 // As many words as there are places, where there are bytes for all of them; else they stay.
 pub fn read_words(words: &mut [u64], bytes: &[u8])
     ensures { words.new ≡ words_read words.old bytes.now }
 {
-    let n = words.len();
-    if bytes.len() / 8 < n {
+    if bytes.len() / 8 < words.len() {
         return;
     }
-    let mut i = 0;
-    while i < n {
-        words[i] = word_at(bytes, 8 * i);
-        i += 1;
+    for (i, word) in words.iter_mut().enumerate() {
+        word.load(bytes, 8 * i);
     }
 }
 
@@ -29,9 +26,7 @@ pub fn put_words(bytes: &mut [u8], words: &[u64], from: usize, to: usize)
     if words.len() < to {
         return;
     }
-    let mut i = from;
-    while i < to {
-        put_word(bytes, 8 * i, words[i]);
-        i += 1;
+    for i in from..to {
+        words[i].store(bytes, 8 * i);
     }
 }

@@ -1,13 +1,11 @@
 use borrow.Author.Tests.{eq-eqb, ne_eqb}
-use lib.Seq.{drop-drop}
-use Rattle.layout.specs.Layout.{state}
 use Rattle.layout.specs.Whole.{state_of}
 use Rattle.layout.proofs.states.state_of.Goals as goal
 
-pub returns-then-bytes-ne-STATE : goal.returns-then-bytes-ne-STATE
-unfolding state state_of
-returns-then-bytes-ne-STATE c = rw (ne_eqb _ _ c.if-bytes-ne-STATE.true) c.empty_state.ensures
+pub returns-then-bytes-eq-STATE : goal.returns-then-bytes-eq-STATE
+unfolding state_of
+returns-then-bytes-eq-STATE c = rw (eq-eqb _ _ c.if-bytes-eq-STATE.true) c.load.ensures
 
-pub returns : goal.returns
-unfolding state state_of
-returns c = rw (eq-eqb _ _ c.if-bytes-ne-STATE.false) (simp drop-drop (rw (c.accounts_at.ensures, c.domains_at.ensures, c.table_at.ensures)))
+pub returns-else-bytes-eq-STATE : goal.returns-else-bytes-eq-STATE
+unfolding state_of
+returns-else-bytes-eq-STATE c = rw (ne_eqb _ _ c.if-bytes-eq-STATE.false) c.empty_state-s.ensures

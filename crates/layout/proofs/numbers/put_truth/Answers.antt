@@ -1,7 +1,0 @@
-use Prim.{tt}
-use Rattle.codec.specs.Number.{truth, bit}
-use Rattle.layout.proofs.numbers.put_truth.Goals as goal
-
-pub returns : goal.returns
-unfolding truth
-returns c = (simp bit, tt)
