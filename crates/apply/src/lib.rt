@@ -6,10 +6,9 @@ ghost use Rattle.calls.specs.Step.{world, result_of, step, unchecked};
 ghost use Rattle.calls.specs.Parts.{Alters, Moves};
 
 use access_calls::access;
-use calls::replies::{answered, put_domain, put_estate, stays, unaltered};
+use calls::replies::{answered, put_domain, put_estate};
 use calls::{
-    Altered, Answer, Call, Caller, DomainCall, Moved, ObjectCall, Outcome, Refusal, STORE_WORDS,
-    admits, caller_of,
+    Altered, Call, DomainCall, Moved, ObjectCall, Outcome, Refusal, STORE_WORDS, admits, caller_of,
 };
 use create_call::obj_create;
 use domain_calls::{apd_delete, apd_get, apd_insert, apd_lock};
@@ -26,7 +25,7 @@ fn known_call(
     d: usize,
     f: Frame,
     call: ObjectCall,
-) -> Altered
+) -> Result<Altered, Refusal>
     requires { d < 4 }
     ensures { Alters t x d f store.old call result store.new }
 {
@@ -36,22 +35,20 @@ fn known_call(
             pages,
             password,
             account,
-        } => return obj_create(t, x, store, d as u64, page, pages, password, account),
-        ObjectCall::Delete { base } => return obj_delete(t, store, f, base),
+        } => obj_create(t, x, store, d as u64, page, pages, password, account),
+        ObjectCall::Delete { base } => obj_delete(t, store, f, base),
         ObjectCall::AddPassword {
             base,
             password,
             mode,
-        } => return obj_passwd_add(t, store, f, base, password, mode),
-        ObjectCall::DropPassword { base, password } => return obj_passwd_drop(
-            t, store, f, base, password,
-        ),
+        } => obj_passwd_add(t, store, f, base, password, mode),
+        ObjectCall::DropPassword { base, password } => obj_passwd_drop(t, store, f, base, password),
         ObjectCall::Register {
             base,
             password,
             list,
             entries,
-        } => return obj_cre_pdx(t, store, f, base, password, list, entries),
+        } => obj_cre_pdx(t, store, f, base, password, list, entries),
     }
 }
 
@@ -63,30 +60,27 @@ pub fn object_call(
     d: u64,
     f: Frame,
     call: ObjectCall,
-) -> Altered
+) -> Result<Altered, Refusal>
     ensures { Alters t x d f store.old call result store.new }
 {
-    let caller = caller_of(store.len(), d);
-    match caller {
-        Caller::Known(k) => return known_call(t, x, store, k, f, call),
-        Caller::Refused(why) => return unaltered(t, why),
-    }
+    let k = caller_of(store.len(), d)?;
+    known_call(t, x, store, k, f, call)
 }
 
 // Any call on the caller's domain.
-pub fn domain_call(t: Table, store: &[u64], m: Domain, call: DomainCall) -> Moved
+pub fn domain_call(t: Table, store: &[u64], m: Domain, call: DomainCall) -> Result<Moved, Refusal>
     ensures { Moves t m store.now call result }
 {
     if store.len() != STORE_WORDS {
-        return stays(m, Refusal::StoreLength);
+        return Err(Refusal::StoreLength);
     }
     match call {
-        DomainCall::Insert { slot, list } => return apd_insert(t, m, slot, list),
-        DomainCall::Remove { slot } => return apd_delete(m, slot),
-        DomainCall::Get => return apd_get(m),
-        DomainCall::Lock { slot } => return apd_lock(m, slot),
-        DomainCall::PdxCall { entry, choice } => return pdx_call(t, store, m, entry, choice),
-        DomainCall::PdxReturn => return pdx_return(m),
+        DomainCall::Insert { slot, list } => apd_insert(t, m, slot, list),
+        DomainCall::Remove { slot } => apd_delete(m, slot),
+        DomainCall::Get => Ok(apd_get(m)),
+        DomainCall::Lock { slot } => apd_lock(m, slot),
+        DomainCall::PdxCall { entry, choice } => pdx_call(t, store, m, entry, choice),
+        DomainCall::PdxReturn => pdx_return(m),
     }
 }
 
@@ -100,9 +94,9 @@ fn carried_out(s: State, store: &mut [u64], d: usize, call: Call) -> Outcome
     let m = s.domains[d];
     let f = m.active;
     match call {
-        Call::OnStore(c) => return answered(s, access(t, store, f, c)),
-        Call::OnObject(c) => return put_estate(s, object_call(t, x, store, d as u64, f, c)),
-        Call::OnDomain(c) => return put_domain(s, d, domain_call(t, store, m, c)),
+        Call::OnStore(c) => answered(s, access(t, store, f, c)),
+        Call::OnObject(c) => put_estate(s, object_call(t, x, store, d as u64, f, c)),
+        Call::OnDomain(c) => put_domain(s, d, domain_call(t, store, m, c)),
     }
 }
 
@@ -110,10 +104,9 @@ fn carried_out(s: State, store: &mut [u64], d: usize, call: Call) -> Outcome
 pub fn unchecked(s: State, store: &mut [u64], d: u64, call: Call) -> Outcome
     ensures { result_of result store.new ≡ unchecked (world s store.old) d call }
 {
-    let caller = caller_of(store.len(), d);
-    match caller {
-        Caller::Known(k) => return carried_out(s, store, k, call),
-        Caller::Refused(why) => return answered(s, Answer::Refused(why)),
+    match caller_of(store.len(), d) {
+        Ok(k) => carried_out(s, store, k, call),
+        Err(why) => answered(s, Err(why)),
     }
 }
 
@@ -123,7 +116,7 @@ pub fn apply(s: State, store: &mut [u64], d: u64, call: Call) -> Outcome
     ensures { result_of result store.new ≡ step (world s store.old) d call }
 {
     if !admits(s, store) {
-        return answered(s, Answer::Refused(Refusal::Unsound));
+        return answered(s, Err(Refusal::Unsound));
     }
     unchecked(s, store, d, call)
 }

@@ -7,13 +7,14 @@ ghost use Rattle.calls.specs.Step.{result_of};
 
 use calls::replies::answered;
 use calls::words::zero_words;
-use calls::{Answer, BOOT_NUMBERS, Caller, Outcome, Refusal, caller_of};
+use calls::{BOOT_NUMBERS, Outcome, Refusal, caller_of};
 use plan::plan_ok;
 use rights::Rights;
 use state::objects::free_object;
-use state::{Accounts, Capability, Domain, Estate, Frame, State, Table};
+use state::{Accounts, Capability, Domain, Estate, State, Table};
+use std::array;
 use updates::estates::empty_state;
-use updates::frames::only_list;
+use updates::frames::{empty_frame, only_list};
 use updates::objects::new_object;
 
 // The estate of domain d after a boot: its first page, with the home password, on the home account.
@@ -21,20 +22,9 @@ fn home_estate(plan: [u64; BOOT_NUMBERS], d: usize) -> Estate
     requires { (d < 4) × (account_of plan d < 4) }
     ensures { result ≡ home_estate plan d }
 {
-    let none = free_object();
-    let account = plan[8 + 2 * d] as u8;
-    Estate {
-        objects: [
-            new_object(32 * d as u8, 1, plan[d], account),
-            none,
-            none,
-            none,
-            none,
-            none,
-            none,
-            none,
-        ],
-    }
+    let mut objects = [free_object(); 8];
+    objects[0] = new_object(32 * d as u8, 1, plan[d], plan[8 + 2 * d] as u8);
+    Estate { objects }
 }
 
 // Domain d after a boot: slot 0 names its home object.
@@ -42,26 +32,17 @@ fn home_domain(plan: [u64; BOOT_NUMBERS], d: usize) -> Domain
     requires { d < 4 }
     ensures { result ≡ home_domain plan d }
 {
-    let none = Frame {
-        slots: [Capability {
-            page: 0,
-            password: 0,
-        }; 8],
-        count: 0,
-        locked: 0,
-        whole: false,
-    };
     Domain {
         active: only_list(Capability {
             page: 32 * d as u8,
             password: plan[d],
         }),
-        saved: [none; 4],
+        saved: [empty_frame(); 4],
         depth: 0,
     }
 }
 
-// The limits and sets that a boot gives.
+// The limits and sets that a boot gives. Rows, since closures with their bounds would be longer.
 fn boot_accounts(plan: [u64; BOOT_NUMBERS]) -> Accounts
     requires { plan_ok plan ≡ true }
     ensures { result ≡ boot_accounts plan }
@@ -83,19 +64,13 @@ fn boot_state(plan: [u64; BOOT_NUMBERS]) -> State
 {
     State {
         table: Table {
-            estates: [
-                home_estate(plan, 0),
-                home_estate(plan, 1),
-                home_estate(plan, 2),
-                home_estate(plan, 3),
-            ],
+            estates: array::from_fn(
+                |d| -> Estate
+                    requires { (d < 4) × (plan_ok plan ≡ true) }
+                { home_estate(plan, d) },
+            ),
         },
-        domains: [
-            home_domain(plan, 0),
-            home_domain(plan, 1),
-            home_domain(plan, 2),
-            home_domain(plan, 3),
-        ],
+        domains: array::from_fn(|d| home_domain(plan, d)),
         accounts: boot_accounts(plan),
     }
 }
@@ -115,10 +90,9 @@ fn boot_words(store: &mut [u64], plan: [u64; BOOT_NUMBERS])
     ensures { store.new ≡ boot_words plan }
 {
     zero_words(store, 0, 8192);
-    home_pair(store, plan, 0);
-    home_pair(store, plan, 1);
-    home_pair(store, plan, 2);
-    home_pair(store, plan, 3);
+    for d in 0..4 {
+        home_pair(store, plan, d);
+    }
 }
 
 // BT behind checks 2 and 4.
@@ -127,10 +101,10 @@ fn booted(store: &mut [u64], plan: [u64; BOOT_NUMBERS]) -> Outcome
     ensures { result_of result store.new ≡ booted_by store.old plan }
 {
     if !plan_ok(plan) {
-        return answered(empty_state(), Answer::Refused(Refusal::OutOfRange));
+        return answered(empty_state(), Err(Refusal::OutOfRange));
     }
     boot_words(store, plan);
-    answered(boot_state(plan), Answer::Done(0))
+    answered(boot_state(plan), Ok(0))
 }
 
 // BT by a domain, with its numbers: home passwords, limits, home accounts and sets. The paper's number and values of its answer:
@@ -138,9 +112,8 @@ fn booted(store: &mut [u64], plan: [u64; BOOT_NUMBERS]) -> Outcome
 pub fn boot(store: &mut [u64], d: u64, plan: [u64; BOOT_NUMBERS]) -> Outcome
     ensures { result_of result store.new ≡ boot store.old d plan }
 {
-    let caller = caller_of(store.len(), d);
-    match caller {
-        Caller::Known(k) => return booted(store, plan),
-        Caller::Refused(why) => return answered(empty_state(), Answer::Refused(why)),
+    match caller_of(store.len(), d) {
+        Ok(_) => booted(store, plan),
+        Err(why) => answered(empty_state(), Err(why)),
     }
 }

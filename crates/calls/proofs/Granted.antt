@@ -1,9 +1,8 @@
 -- DEMAND 2 at the door: which calls are answered 7.
-use Rattle.std.specs.Prelude.{ℕ, ◌↔◌}
+use Rattle.std.specs.Prelude.{ℕ, ◌↔◌, None}
 use Rattle.std.proofs.Math.Path.{◌≡◌, refl}
 use Rattle.std.proofs.Math.Bool.{true}
 use mathlib.Core.Logic.Iff
-use Rattle.std.proofs.Math.Option.{none}
 use native.Mathlib.Omega.{arith}
 use Rattle.rights.specs.Modes.{pdx, owner}
 use Rattle.clists.specs.Clist.{live}
@@ -37,7 +36,7 @@ module _ (w : World) (d : ℕ) (c : Call) where
 
 module _ (w : World) (d : ℕ) where
   -- a call that wants rights and presents nothing, with or without checks from 8 on, is answered 7 exactly where they are not grantable
-  pub ungranted_seven : (c : Call) {target : Target} {r : ℕ} → wanted c ≡ rights target r → presented c ≡ none
+  pub ungranted_seven : (c : Call) {target : Target} {r : ℕ} → wanted c ≡ rights target r → presented c ≡ None
       → SevenUnless w d c (GrantableTo w d target r)
   ungranted_seven c e n = Iff.trans (answers_seven w d c) (Iff.and Iff.rfl (Iff.not (alone w d c e n)))
 

@@ -1,5 +1,5 @@
 -- REFUSAL 6: which calls the locks stop, for any call, and that the whole lock stops no other.
-use Rattle.std.specs.Prelude.{ℕ, ◌<◌, ◌≡◌, Bool, true, false, not, ◌&&◌, ◌||◌, ◌⊎◌, ◌↔◌, ltb, length}
+use Rattle.std.specs.Prelude.{ℕ, ◌<◌, ◌≡◌, Bool, true, false, not, ◌&&◌, ◌||◌, ◌⊎◌, ◌↔◌, ltb, length, Option, Some, None}
 use Rattle.std.proofs.Math.Path.{refl, ap}
 use Rattle.std.proofs.Common.{sym, ◌∙◌, true≢false, inl, inr, get_or-set_same}
 use Rattle.std.proofs.Math.Bool.{and-true, and-false, or-true, or-false}
@@ -14,8 +14,6 @@ use Rattle.soundness.specs.Laws.StateParts.{state_parts}
 use Rattle.judge.specs.Judged.{judged}
 use Rattle.judge.specs.Laws.Local.{slots_local}
 use Rattle.judge.specs.declared.Target.{Target}
-use Rattle.judge.specs.declared.Judgement.{Judgement}
-use Rattle.judge.specs.declared.Judgement.TheVariants.{Granted, Refused}
 use Rattle.calls.specs.View.{World, View, Want, nothing, rights, first_failing, found_by, search}
 use Rattle.calls.specs.Rules.{unlocked, wanted, early, late, checks, view, changes}
 use Rattle.calls.specs.Step.{step, world, world_of}
@@ -132,9 +130,9 @@ module _ (w : World) (d : ℕ) (c : Call) (l : d < length w.state.domains) where
   locked = world (with_domain w.state d (with_active (domain_at w.state d) (lock_slot (domain_at w.state d).active 255))) w.words
 
   -- there a call sees what it saw, but for the lock
-  found_there : (target : Target) (j : Judgement) → found_by locked target j ≡ found_by w target j
-  found_there target (Granted pair) = refl
-  found_there target Refused = refl
+  found_there : (target : Target) (j : Option ℕ) → found_by locked target j ≡ found_by w target j
+  found_there target (Some pair) = refl
+  found_there target None = refl
 
   found_same : (want : Want) → search judged locked (lock_slot (domain_at w.state d).active 255) want ≡ search judged w (domain_at w.state d).active want
   unfolding lock_slot

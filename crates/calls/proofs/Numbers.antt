@@ -1,5 +1,5 @@
 -- The paper's numbers of what a call hands back, answer by answer: document 01, "The forms we expect", the last sentence.
-use Rattle.std.specs.Prelude.{ℕ, zero, suc, ◌+◌, ◌<◌, ◌≤◌, ◌≡◌, refl, true, false, cond, List, [], ◌∷◌, ◌⊎◌, ltb, eqb, take}
+use Rattle.std.specs.Prelude.{ℕ, zero, suc, ◌+◌, ◌<◌, ◌≤◌, ◌≡◌, refl, true, false, cond, List, [], ◌∷◌, ◌⊎◌, ltb, eqb, take, Ok, Err}
 use Rattle.std.proofs.Common.{ap, ◌∙◌, inl, inr, arith, lt-ltb, ne_eqb}
 use Rattle.bounded.specs.Fill.{tabulate}
 use Rattle.state.specs.Places.{slot_at, domain_at}
@@ -21,11 +21,10 @@ use Rattle.calls.specs.declared.Access.TheVariants.{Read, Write, Execute, Lookup
 use Rattle.calls.specs.declared.ObjectCall.TheVariants.{Create, Delete, AddPassword, DropPassword, Register}
 use Rattle.calls.specs.declared.DomainCall.TheVariants.{Insert, Remove, Get, Lock, PdxCall, PdxReturn}
 use Rattle.calls.specs.declared.Refusal.{Refusal}
-use Rattle.calls.specs.declared.Answer.TheVariants.{Done, Refused}
 use Rattle.calls.specs.Laws.Numbers.{unchanged_numbers, is_get, frame_numbers}
 
 -- REFUSED: the refusal's number, and the value 0
-pub refused_numbers : (w : World) (d : ℕ) (c : Call) (why : Refusal) → (step w d c).outcome.answer ≡ Refused why
+pub refused_numbers : (w : World) (d : ℕ) (c : Call) (why : Refusal) → (step w d c).outcome.answer ≡ Err why
     → answer_of (step w d c) ≡ refusal_number why ∷ 0 ∷ []
 refused_numbers w d c why h = unchanged_numbers w why (step w d c) ((refused_changes_nothing w d c).0 why h)
 
@@ -49,7 +48,7 @@ only_get (OnDomain (PdxCall a ch)) v n = refl
 only_get (OnDomain PdxReturn) v n = refl
 
 -- DONE: 0, and the value
-pub done_numbers : (w : World) (d : ℕ) (c : Call) (value : ℕ) → is_get c ≡ false → (step w d c).outcome.answer ≡ Done value
+pub done_numbers : (w : World) (d : ℕ) (c : Call) (value : ℕ) → is_get c ≡ false → (step w d c).outcome.answer ≡ Ok value
     → answer_of (step w d c) ≡ 0 ∷ value ∷ []
 done_numbers w d c value n h = go (step_cases w d c)
   where
@@ -68,7 +67,7 @@ three : (n x y z : ℕ) (xs told : List ℕ) → cond (eqb (3 + n) 0) told (take
 three n x y z xs told = let more : 3 + n ≡ suc (suc (suc n)) = omega arith in rw (ne_eqb (3 + n) 0 (λ e. omega arith), more)
 
 -- A DONE GT: 0, how many slots, how many of them locked, the whole lock as 1 or 0, then the page of each slot
-pub get_numbers : (w : World) (d value : ℕ) → (step w d (OnDomain Get)).outcome.answer ≡ Done value
+pub get_numbers : (w : World) (d value : ℕ) → (step w d (OnDomain Get)).outcome.answer ≡ Ok value
     → answer_of (step w d (OnDomain Get)) ≡ 0 ∷ frame_numbers (domain_at w.state d).active
 unfolding rule view frame_fields
 get_numbers w d value h = go (step_cases w d (OnDomain Get))

@@ -1,8 +1,7 @@
 -- What a call comes to: it is refused, or passes each check and is done. A refused call changes nothing.
-use Rattle.std.specs.Prelude.{ℕ, ◌≡◌, refl, true, List, ◌∷◌, ◌⊎◌}
+use Rattle.std.specs.Prelude.{ℕ, ◌≡◌, refl, true, List, ◌∷◌, ◌⊎◌, Option, Some, None, Err}
 use Rattle.std.proofs.Common.{ap, arith, eqb-true, ltb-true}
 use Rattle.std.proofs.Math.Logic.{inl, inr, ⊎_elim}
-use Rattle.std.proofs.Math.Option.{Option, none, some}
 use Rattle.soundness.specs.Sound.{sound}
 use Rattle.judge.specs.Judged.{judged}
 use Rattle.calls.specs.Answers.{refusal_number}
@@ -12,7 +11,6 @@ use Rattle.calls.specs.Step.{done, concluded, store_check, step_by, unchecked_by
 use Rattle.calls.specs.Laws.Order.{all_checks, AllHold, none_fails}
 use Rattle.calls.specs.declared.Call.{Call}
 use Rattle.calls.specs.declared.Refusal.{Refusal}
-use Rattle.calls.specs.declared.Answer.TheVariants.{Refused}
 use Rattle.calls.specs.Laws.Passed.{Unchanged, KeptIfRefused, Passes, Refuses, Does}
 
 -- a call whose checks hold passes
@@ -29,15 +27,15 @@ module _ (w : World) (d : ℕ) (c : Call) where
   cases cs v = go (first_failing cs) refl
     where
       go : (o : Option Refusal) → first_failing cs ≡ o → Refuses w (concluded o w d c v) ⊎ (AllHold cs × (concluded o w d c v ≡ done w d c v))
-      go none e = inr ((none_fails cs).0 e, refl)
-      go (some why) e = inl (why, refl)
+      go None e = inr ((none_fails cs).0 e, refl)
+      go (Some why) e = inl (why, refl)
 
   kept : (cs : List Check) (v : View) → KeptIfRefused w (concluded (first_failing cs) w d c v)
   kept cs v why h = go (first_failing cs) h
     where
-      go : (o : Option Refusal) → (concluded o w d c v).outcome.answer ≡ Refused why → Unchanged w why (concluded o w d c v)
-      go none h = let z : ◌≡◌ {A = ℕ} 0 1 = cc in absurd (omega arith)
-      go (some r) h = let e : r ≡ why = cc in record { number = ap refusal_number e; value = refl; fields = refl; state = refl; words = refl }
+      go : (o : Option Refusal) → (concluded o w d c v).outcome.answer ≡ Err why → Unchanged w why (concluded o w d c v)
+      go None h = let z : ◌≡◌ {A = ℕ} 0 1 = cc in absurd (omega arith)
+      go (Some r) h = let e : r ≡ why = cc in record { number = ap refusal_number e; value = refl; fields = refl; state = refl; words = refl }
 
   -- DEMAND 1: A REFUSED CALL CHANGES NOTHING, with check 3 and without it
   pub refused_changes_nothing : KeptIfRefused w (step w d c) × KeptIfRefused w (unchecked w d c)

@@ -1,10 +1,7 @@
 -- Each answer as numbers: that of document 01, "In checking order", and of document 02, T-05, and what stands behind it.
-use Rattle.std.specs.Prelude.{ℕ, suc, cond, List, [], ◌∷◌, eqb, take, replicate}
-use Rattle.std.proofs.Math.Option.{Option, none, some}
+use Rattle.std.specs.Prelude.{ℕ, suc, cond, List, [], ◌∷◌, eqb, take, replicate, Option, Some, None, Result, Ok, Err}
 use Rattle.calls.specs.declared.Refusal.{Refusal}
 use Rattle.calls.specs.declared.Refusal.TheVariants.{StoreLength, Unsound, NoDomain, OutOfRange, Locked, NotGranted, NotEntry, NoRun, NotPermitted, LimitPassed, HasPassword, Full, Missing}
-use Rattle.calls.specs.declared.Answer.{Answer}
-use Rattle.calls.specs.declared.Answer.TheVariants.{Done, Refused}
 use Rattle.calls.specs.declared.Fields.{Fields}
 use Rattle.calls.specs.declared.Outcome.{Outcome}
 
@@ -43,8 +40,8 @@ refusals =
 
 -- the refusal of a list that has a number; how many stand there before it
 abbrev pub numbered : ℕ → List Refusal → Option Refusal
-numbered n [] = none
-numbered n (r ∷ rs) = cond (eqb (refusal_number r) n) (some r) (numbered n rs)
+numbered n [] = None
+numbered n (r ∷ rs) = cond (eqb (refusal_number r) n) (Some r) (numbered n rs)
 
 abbrev pub place_in : ℕ → List Refusal → ℕ
 place_in n [] = 0
@@ -54,15 +51,19 @@ place_in n (r ∷ rs) = cond (eqb (refusal_number r) n) 0 (suc (place_in n rs))
 abbrev pub refusal_place : Refusal → ℕ
 refusal_place r = place_in (refusal_number r) refusals
 
+-- how a call is answered: done, with a value, or refused
+abbrev pub Answer : Type 0
+Answer = Result ℕ Refusal
+
 -- a done call answers 0
 abbrev pub number_of : Answer → ℕ
-number_of (Done value) = 0
-number_of (Refused r) = refusal_number r
+number_of (Ok value) = 0
+number_of (Err r) = refusal_number r
 
 -- a refused one gives the value 0
 abbrev pub value_of : Answer → ℕ
-value_of (Done value) = value
-value_of (Refused r) = 0
+value_of (Ok value) = value
+value_of (Err r) = 0
 
 abbrev pub no_fields : Fields
 no_fields = record { count = 0; values = replicate 11 0 }

@@ -1,6 +1,5 @@
 -- BT: document 01, "The calls", with the accounts of document 02, T-05.
-use Rattle.std.specs.Prelude.{ℕ, ◌+◌, ◌*◌, Bool, not, cond, ◌&&◌, List, [], ◌∷◌, leb, ltb, eqb, get_or, set, replicate}
-use Rattle.std.proofs.Math.Option.{Option, none, some}
+use Rattle.std.specs.Prelude.{ℕ, ◌+◌, ◌*◌, Bool, not, cond, ◌&&◌, List, [], ◌∷◌, leb, ltb, eqb, get_or, set, replicate, Option, Some, None}
 use Rattle.bounded.specs.Every.{below}
 use Rattle.bounded.specs.Fill.{tabulate}
 use Rattle.bounded.specs.Sum.{total}
@@ -63,8 +62,8 @@ boot_words plan = home_pair plan 3 (home_pair plan 2 (home_pair plan 1 (home_pai
 
 -- a refused boot gives the empty state, and the store as it was
 abbrev pub booted : List ℕ → List ℕ → Option Refusal → Result
-booted plan words none = result_of (done_with (boot_state plan) 0) (boot_words plan)
-booted plan words (some r) = refused (world empty_state words) r
+booted plan words None = result_of (done_with (boot_state plan) 0) (boot_words plan)
+booted plan words (Some r) = refused (world empty_state words) r
 
 -- 5: no home password is zero
 unfoldable pub homes_ok : List ℕ → Bool

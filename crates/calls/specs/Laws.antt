@@ -9,6 +9,7 @@ pub mod Lookup
 pub mod Numbers
 pub mod Locks
 pub mod Searched
+pub mod Exits
 pub mod Fit
 pub mod Sound
 pub mod Plan

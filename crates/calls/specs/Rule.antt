@@ -1,6 +1,5 @@
 -- What a call says of itself: document 01, "In checking order". What calls share stands in a constructor here; Rules.antt has the calls.
-use Rattle.std.specs.Prelude.{ℕ, Bool, true, not, List, [], ltb}
-use Rattle.std.proofs.Math.Option.{Option, none}
+use Rattle.std.specs.Prelude.{ℕ, Bool, true, not, List, [], ltb, Option, None}
 use Rattle.state.specs.declared.Object.{Object}
 use Rattle.state.specs.declared.Frame.{Frame}
 use Rattle.judge.specs.declared.Target.TheVariants.{Address, Base}
@@ -80,14 +79,14 @@ is_account a = ltb a 4
 
 -- an access: rights at an address
 abbrev pub access : Bool → ℕ → ℕ → (View → ℕ) → List Change → Touch → Rule
-access range a r value changes touch = says range always (rights (Address a) r) none none (λ d v. []) value untold (λ d v. changes) touch
+access range a r value changes touch = says range always (rights (Address a) r) None None (λ d v. []) value untold (λ d v. changes) touch
 
 -- a call on the object with a base; where no object has that base, nothing is granted
 abbrev pub on_object : Bool → (Frame → Bool) → ℕ → ℕ → Option Presented → (Object → List Check) → (View → List Change) → Rule
 on_object range unlocked b r presents rest changes =
-    says range unlocked (rights (Base b) r) presents none (λ d v. rest (object_of v.found)) valueless untold (λ d. changes) (touches_object b)
+    says range unlocked (rights (Base b) r) presents None (λ d v. rest (object_of v.found)) valueless untold (λ d. changes) (touches_object b)
 
 -- a call on the slots and locks of the caller's frame
 abbrev pub on_frame : Bool → (Frame → Bool) → Option Presented → (Frame → List Check) → (Frame → Frame) → Touch → Rule
 on_frame range unlocked presents rest after touch =
-    says range unlocked nothing presents none (λ d v. rest v.domain.active) valueless untold (λ d v. active d v (after v.domain.active)) touch
+    says range unlocked nothing presents None (λ d v. rest v.domain.active) valueless untold (λ d v. active d v (after v.domain.active)) touch

@@ -1,6 +1,5 @@
 -- The calls, one rule each: document 01, "The calls". What is checked follows from the rule, in the order of "In checking order".
-use Rattle.std.specs.Prelude.{ℕ, ◌*◌, ◌/◌, Bool, true, not, ◌&&◌, ◌||◌, List, [], ◌∷◌, ◌++◌, leb, ltb, eqb}
-use Rattle.std.proofs.Math.Option.{Option, none, some}
+use Rattle.std.specs.Prelude.{ℕ, ◌*◌, ◌/◌, Bool, true, not, ◌&&◌, ◌||◌, List, [], ◌∷◌, ◌++◌, leb, ltb, eqb, Option, Some, None}
 use Rattle.rights.specs.Modes.{legal, read, write, execute, destroy, pdx, owner}
 use Rattle.state.specs.Places.{estate_at, domain_at}
 use Rattle.state.specs.Extent.{covers, lies_in}
@@ -38,7 +37,7 @@ abbrev object_rule : ObjectCall → Rule
 -- CR: one object more in the caller's estate, with one password in the owner's mode and its words zeroed, its pages charged to an account
 -- (document 02, T-05), at its place by rising base (T-06)
 object_rule (Create p n k a) =
-    says (is_page p && ltb 0 n && leb n 32 && not (eqb k 0) && is_account a) always nothing none (some (record { account = a; pages = n }))
+    says (is_page p && ltb 0 n && leb n 32 && not (eqb k 0) && is_account a) always nothing None (Some (record { account = a; pages = n }))
     (λ d v. check NoRun (lies_in (new_object p n k a) d && run_free v.estate (new_object p n k a))
     ∷ check NotPermitted v.permits
     ∷ check LimitPassed v.fits
@@ -47,19 +46,19 @@ object_rule (Create p n k a) =
     valueless untold
     (λ d v. estate d (insert_object v.estate (new_object p n k a)) ∷ zeros (64 * p) (64 * n) ∷ []) touches_nothing
 -- DL: the object goes and those behind it close the gap (T-06), its words stay
-object_rule (Delete b) = on_object (is_page b) always b destroy none (λ o. []) (goes b)
+object_rule (Delete b) = on_object (is_page b) always b destroy None (λ o. []) (goes b)
 -- AP: a password more, behind the last (T-06); the whole lock stops it (document 02, T-03)
 object_rule (AddPassword b k m) =
-    on_object (is_page b && not (eqb k 0) && legal m) unless_whole b owner none
+    on_object (is_page b && not (eqb k 0) && legal m) unless_whole b owner None
     (λ o. check HasPassword (not (has_password o k)) ∷ check Full (ltb (free_password_place o) 4) ∷ [])
     (becomes b (λ o. add_password o k m))
 -- DP: a password goes and the younger ones close the gap (T-06), or the registration that has it goes
-object_rule (DropPassword b k) = on_object (is_page b) always b owner none (λ o. check Missing (has_password o k) ∷ []) (becomes b (λ o. drop_password o k))
+object_rule (DropPassword b k) = on_object (is_page b) always b owner None (λ o. check Missing (has_password o k) ∷ []) (becomes b (λ o. drop_password o k))
 -- RG: the object becomes a procedure, with 1 to 4 entries inside it and a Clist capability that passes rule 1; the whole lock stops it
 -- (document 02, T-03)
 object_rule (Register b k l es) =
     on_object (is_page b && not (eqb k 0) && is_page l.page && ltb 0 es.count && leb es.count 4 && entries_all in_store es) unless_whole b
-    owner (some l)
+    owner (Some l)
     (λ o. check NotEntry (entries_all (λ a. covers o (a / 64)) es)
     ∷ check HasPassword (not (has_password o k))
     ∷ check Full (eqb o.registration.password 0)
@@ -73,19 +72,19 @@ unlocked_from i f = leb f.locked i && unless_whole f
 abbrev domain_rule : DomainCall → Rule
 -- IN: a capability that passes rule 1 becomes slot i
 domain_rule (Insert i l) =
-    on_frame (ltb i 8 && is_page l.page) (unlocked_from i) (some l) (λ f. check Full (ltb f.count 8) ∷ check Missing (leb i f.count) ∷ [])
+    on_frame (ltb i 8 && is_page l.page) (unlocked_from i) (Some l) (λ f. check Full (ltb f.count 8) ∷ check Missing (leb i f.count) ∷ [])
     (λ f. insert_slot f i (capability l)) touches_slots
 -- RM: slot i goes
 domain_rule (Remove i) =
-    on_frame (ltb i 8) (unlocked_from i) none (λ f. check Missing (ltb i f.count) ∷ []) (λ f. remove_slot f i) touches_slots
+    on_frame (ltb i 8) (unlocked_from i) None (λ f. check Missing (ltb i f.count) ∷ []) (λ f. remove_slot f i) touches_slots
 -- GT: the fields of the frame
-domain_rule Get = says true always nothing none none (λ d v. []) valueless (λ v. frame_fields v.domain.active) (λ d v. []) touches_nothing
+domain_rule Get = says true always nothing None None (λ d v. []) valueless (λ v. frame_fields v.domain.active) (λ d v. []) touches_nothing
 -- LO: locks slot i and all before it; 255 sets the whole lock
 domain_rule (Lock i) =
-    on_frame (ltb i 8 || eqb i 255) always none (λ f. check Missing (eqb i 255 || ltb i f.count) ∷ []) (λ f. lock_slot f i) touches_nothing
+    on_frame (ltb i 8 || eqb i 255) always None (λ f. check Missing (eqb i 255 || ltb i f.count) ∷ []) (λ f. lock_slot f i) touches_nothing
 -- CA, with choice 0 (merge) or 1 (empty): the domain is saved, and the registered Clist comes in; the value is the entry
 domain_rule (PdxCall a ch) =
-    says (in_store a && ltb ch 2) unless_whole (rights (Address a) pdx) none none
+    says (in_store a && ltb ch 2) unless_whole (rights (Address a) pdx) None None
     (λ d v. check NotEntry (is_entry (object_of v.found) a)
     ∷ check Full (not (eqb ch 0) || ltb v.domain.active.count 8)
     ∷ check Full (ltb v.domain.depth 4)
@@ -94,7 +93,7 @@ domain_rule (PdxCall a ch) =
     (λ d v. domain d (save_domain v.domain (entered ch v.domain.active (object_of v.found).registration.list)) ∷ []) touches_slots
 -- RT: the domain saved last comes back
 domain_rule PdxReturn =
-    says true always nothing none none (λ d v. check Missing (ltb 0 v.domain.depth) ∷ []) valueless untold
+    says true always nothing None None (λ d v. check Missing (ltb 0 v.domain.depth) ∷ []) valueless untold
     (λ d v. domain d (restore_domain v.domain) ∷ []) touches_slots
 
 unfoldable pub rule : Call → Rule
@@ -144,8 +143,8 @@ granted_check nothing v = []
 granted_check (rights target r) v = check NotGranted (is_some v.found) ∷ []
 
 abbrev pub presented_check : Option Presented → View → List Check
-presented_check none v = []
-presented_check (some l) v = check NotGranted v.live ∷ []
+presented_check None v = []
+presented_check (Some l) v = check NotGranted v.live ∷ []
 
 -- 7 to 12, with 14 and 15
 unfoldable pub late : ℕ → Call → View → List Check

@@ -1,6 +1,5 @@
 -- What every call does: it reads a view, is checked against it, and answers with a value and changes.
-use Rattle.std.specs.Prelude.{ℕ, Bool, not, ◌||◌, List, ◌∷◌, eqb, length}
-use Rattle.std.proofs.Math.Option.{Option, none, some}
+use Rattle.std.specs.Prelude.{ℕ, Bool, not, ◌||◌, List, ◌∷◌, eqb, length, Option, Some, None, Ok, Err}
 use Rattle.soundness.specs.Sound.{sound}
 use Rattle.state.specs.declared.State.{State}
 use Rattle.judge.specs.Judged.{judged}
@@ -11,8 +10,7 @@ use Rattle.calls.specs.Rules.{view, checks, value, fields, changes}
 use Rattle.calls.specs.declared.Call.{Call}
 use Rattle.calls.specs.declared.Refusal.{Refusal}
 use Rattle.calls.specs.declared.Refusal.TheVariants.{StoreLength, Unsound}
-use Rattle.calls.specs.declared.Answer.{Answer}
-use Rattle.calls.specs.declared.Answer.TheVariants.{Done, Refused}
+use Rattle.calls.specs.Answers.{Answer}
 use Rattle.calls.specs.declared.Outcome.{Outcome}
 
 -- what a call hands back: the outcome with the new state, and the words of the store
@@ -39,23 +37,23 @@ answered_with s a = record { answer = a; fields = no_fields; state = s }
 
 -- a refused call's outcome (`refused_changes_nothing`, proofs/Passed.antt)
 abbrev pub refused_with : State → Refusal → Outcome
-refused_with s r = answered_with s (Refused r)
+refused_with s r = answered_with s (Err r)
 
 abbrev pub refused : World → Refusal → Result
 refused w r = result_of (refused_with w.state r) w.words
 
 -- a done call's outcome, without fields
 abbrev pub done_with : State → ℕ → Outcome
-done_with s value = answered_with s (Done value)
+done_with s value = answered_with s (Ok value)
 
 abbrev pub done : World → ℕ → Call → View → Result
 done w d c v =
-    result_of (record { answer = Done (value c v); fields = fields c v; state = (apply_all (changes d c v) w).state })
+    result_of (record { answer = Ok (value c v); fields = fields c v; state = (apply_all (changes d c v) w).state })
     (apply_all (changes d c v) w).words
 
 abbrev pub concluded : Option Refusal → World → ℕ → Call → View → Result
-concluded none w d c v = done w d c v
-concluded (some r) w d c v = refused w r
+concluded None w d c v = done w d c v
+concluded (Some r) w d c v = refused w r
 
 -- 2: the store has 8,192 words
 abbrev pub store_check : World → Check

@@ -75,7 +75,8 @@ pub struct Presented {
     pub password: u64,
 }
 
-// The entries of a registration: how many, and the first four. What stands past the count is no argument.
+// The entries of a registration: how many, and the first four. What stands past the count is no argument. Four fields and no array: so the
+// theorems, as `refused_changes_nothing`, hold of every value of the type, where the length of an array would be a premise.
 #[derive(Clone, Copy)]
 pub struct Entries {
     pub count: u64,
@@ -89,7 +90,7 @@ pub struct Entries {
 pub const STORE_WORDS: usize = 8192;
 
 // How many numbers a boot is given: the home passwords of the domains, the limits of the accounts, then for each domain its home account and
-// its set.
+// its set. An array and no struct: a line and the C function give them in this row, and the definitions name them by place.
 pub const BOOT_NUMBERS: usize = 16;
 
 // Why a call is refused, in checking order.
@@ -110,61 +111,47 @@ pub enum Refusal {
     Missing,
 }
 
-#[derive(Clone, Copy)]
-pub enum Answer {
-    Done(u64),
-    Refused(Refusal),
-}
-
-// What a done Get reports: `count` numbers. All zero for any other answer.
+// What a done Get reports: `count` numbers. All zero for any other answer. A count beside an array, since nothing is allocated.
 #[derive(Clone, Copy)]
 pub struct Fields {
     pub count: u64,
     pub values: [u64; 11],
 }
 
-// The answer of a call, beside the new state.
+// The answer of a call, its value or why it is refused, beside the new state, which a refused call has too: so `step` gives it.
 #[derive(Clone, Copy)]
 pub struct Outcome {
-    pub answer: Answer,
+    pub answer: Result<u64, Refusal>,
     pub fields: Fields,
     pub state: State,
 }
 
-// The answer of a call on objects, beside an estate: the one that it changed, or one as it is where it changed none.
+// What a done call on objects changed: an estate, at its place in the table.
 #[derive(Clone, Copy)]
 pub struct Altered {
-    pub answer: Answer,
     pub place: usize,
     pub estate: Estate,
 }
 
-// The answer of a call on the caller's domain, beside that domain.
+// What a done call on the caller's domain comes to: its value, its fields and that domain.
 #[derive(Clone, Copy)]
 pub struct Moved {
-    pub answer: Answer,
+    pub value: u64,
     pub fields: Fields,
     pub domain: Domain,
 }
 
-// Who calls: a domain below 4, with a store of the right length, or why the call is refused.
-#[derive(Clone, Copy)]
-pub enum Caller {
-    Known(usize),
-    Refused(Refusal),
-}
-
-// Checks 2 and 4.
-pub fn caller_of(words: usize, d: u64) -> Caller
+// Who calls: a domain below 4, with a store of the right length; else the refusal, by checks 2 and 4.
+pub fn caller_of(words: usize, d: u64) -> Result<usize, Refusal>
     ensures { result ≡ caller_of words d }
 {
     if words != STORE_WORDS {
-        return Caller::Refused(Refusal::StoreLength);
+        return Err(Refusal::StoreLength);
     }
     if 4 <= d {
-        return Caller::Refused(Refusal::NoDomain);
+        return Err(Refusal::NoDomain);
     }
-    Caller::Known(d as usize)
+    Ok(d as usize)
 }
 
 // Whether check 3 passes, or is not reached.

@@ -1,11 +1,10 @@
 -- Which pairs of a Clist name an object; the others say nothing of it.
-use Rattle.std.specs.Prelude.{ℕ, ◌*◌, ◌/◌, ◌<◌, ◌≡◌, refl, Bool, true, false, List, eqb, get_or}
+use Rattle.std.specs.Prelude.{ℕ, ◌*◌, ◌/◌, ◌<◌, ◌≡◌, refl, Bool, true, false, List, eqb, get_or, None, Ok}
 use Rattle.std.proofs.Common.{arith, ne_eqb}
 use Rattle.rights.specs.Modes.{grants}
 use Rattle.state.specs.declared.Object.{Object}
 use Rattle.judge.specs.Search.{pair_mode, verdict_of, pair_verdict}
 use Rattle.clists.specs.Laws.Live.{grants_some}
-use Rattle.judge.specs.declared.Verdict.TheVariants.{Passed}
 
 -- the first word of pair i has the base as its page
 abbrev pub names : List ℕ → ℕ → ℕ → Bool
@@ -21,6 +20,6 @@ no_grant wanted h = go (grants 0 wanted) refl
 
 -- a pair that names another object is passed over
 pub other_passed : (list : List ℕ) (start : ℕ) (o : Object) (wanted i : ℕ) → 0 < wanted → names list o.base i ≡ false
-    → pair_verdict list start o wanted i ≡ Passed
+    → pair_verdict list start o wanted i ≡ Ok None
 unfolding pair_verdict pair_mode verdict_of
 other_passed list start o wanted i h m = rw (m, no_grant wanted h)

@@ -1,15 +1,14 @@
 // How an access is judged.
 #![tactic(auto)]
 
-ghost use Rattle.std.specs.Prelude.{◌≡◌, cond, ◌||◌, [], ◌*◌, ◌<◌, eqb};
+ghost use Rattle.std.specs.Prelude.{◌≡◌, cond, ◌||◌, [], ◌*◌, ◌<◌, eqb, None};
 ghost use Rattle.state.specs.Extent.{free};
 ghost use Rattle.clists.specs.Clist.{named, live, clist};
 ghost use Rattle.judge.specs.Search.{frame_verdict, judgement_of};
 ghost use Rattle.judge.specs.Walk.{list_verdict};
 ghost use Rattle.judge.specs.Judged.{judged};
-ghost use Rattle.judge.specs.declared.Judgement.TheVariants.{Refused};
 
-use crate::pairs::{denies, list_verdict, or_else};
+use crate::pairs::list_verdict;
 use clists::{clist, opened};
 use rights::Rights;
 use state::tables::{object_based, object_covering};
@@ -24,23 +23,19 @@ pub enum Target {
     Base(u64),
 }
 
-// What a pair, a Clist or a frame says of the wanted rights: granted by the pair at an address, denied, or nothing.
+// A pair denies the wanted rights. What a pair, a Clist or a frame says of them is `Result<Option<u64>, Denied>`: granted by the pair at an
+// address, nothing, or denied.
 #[derive(Clone, Copy)]
-pub enum Verdict {
-    Granted(u64),
-    Denied,
-    Passed,
-}
-
-// The judgement: granted, by the pair whose first word is at an address, or refused.
-#[derive(Clone, Copy)]
-pub enum Judgement {
-    Granted(u64),
-    Refused,
-}
+pub struct Denied;
 
 // What the Clist says that a capability opens, where it is live.
-fn slot_verdict(t: Table, store: &[u64], c: Capability, o: Object, wanted: Rights) -> Verdict
+fn slot_verdict(
+    t: Table,
+    store: &[u64],
+    c: Capability,
+    o: Object,
+    wanted: Rights,
+) -> Result<Option<u64>, Denied>
     requires { 0 < wanted.bits }
     ensures { result ≡ list_verdict (cond (live t c) (clist store.now (named t c)) []) (64 * c.page) o wanted.bits }
 {
@@ -53,54 +48,45 @@ fn slot_verdict(t: Table, store: &[u64], c: Capability, o: Object, wanted: Right
 }
 
 // What the frame's live slots say, by slot and then by place: the walk goes on behind a grant, since a later pair may deny.
-fn frame_verdict(t: Table, store: &[u64], f: Frame, o: Object, wanted: Rights) -> Verdict
+fn frame_verdict(
+    t: Table,
+    store: &[u64],
+    f: Frame,
+    o: Object,
+    wanted: Rights,
+) -> Result<Option<u64>, Denied>
     requires { 0 < wanted.bits }
     ensures { result ≡ frame_verdict t store.now f o wanted.bits }
 {
     let count = f.count as usize;
-    let mut found = Verdict::Passed;
-    let mut k = 0;
-    while k < 8 {
+    let mut found = None;
+    for k in 0..8 {
         if count <= k {
-            return found;
+            return Ok(found);
         }
-        let v = slot_verdict(t, store, f.slots[k], o, wanted);
-        if denies(v) {
-            return v;
-        }
-        found = or_else(found, v);
-        k += 1;
+        let v = slot_verdict(t, store, f.slots[k], o, wanted)?;
+        found = found.or(v);
     }
-    found
-}
-
-// A verdict as a judgement: only a grant is one.
-fn judgement_of(v: Verdict) -> Judgement
-    ensures { result ≡ judgement_of v }
-{
-    match v {
-        Verdict::Granted(at) => return Judgement::Granted(at),
-        Verdict::Denied => return Judgement::Refused,
-        Verdict::Passed => return Judgement::Refused,
-    }
+    Ok(found)
 }
 
 // Whether the frame's Clists grant the wanted rights on an object.
-fn judge_object(t: Table, store: &[u64], f: Frame, o: Object, wanted: Rights) -> Judgement
-    ensures { result ≡ cond (free o || eqb wanted.bits 0) Refused (judgement_of (frame_verdict t store.now f o wanted.bits)) }
+fn judge_object(t: Table, store: &[u64], f: Frame, o: Object, wanted: Rights) -> Option<u64>
+    ensures { result ≡ cond (free o || eqb wanted.bits 0) None (judgement_of (frame_verdict t store.now f o wanted.bits)) }
 {
     if (o.pages == 0) | (wanted.bits == 0) {
-        return Judgement::Refused;
+        return None;
     }
-    judgement_of(frame_verdict(t, store, f, o, wanted))
+    frame_verdict(t, store, f, o, wanted).unwrap_or(None)
 }
 
-// Whether the frame's Clists grant the wanted rights on the target.
-pub fn judge(t: Table, store: &[u64], f: Frame, target: Target, wanted: Rights) -> Judgement
+// The judgement on the target: the address of the pair of the frame's Clists that grants the wanted rights; none where they are refused.
+// Table, store and frame apart: `Alters` and `Moves` promise by them one by one, and look-ups take the table, Clists the store alone.
+pub fn judge(t: Table, store: &[u64], f: Frame, target: Target, wanted: Rights) -> Option<u64>
     ensures { result ≡ judged t store.now f target wanted.bits }
 {
     match target {
-        Target::Address(a) => return judge_object(t, store, f, object_covering(t, a / 64), wanted),
-        Target::Base(b) => return judge_object(t, store, f, object_based(t, b), wanted),
+        Target::Address(a) => judge_object(t, store, f, object_covering(t, a / 64), wanted),
+        Target::Base(b) => judge_object(t, store, f, object_based(t, b), wanted),
     }
 }

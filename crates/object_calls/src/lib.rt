@@ -1,4 +1,4 @@
-// The calls on an object that stands: DL, AP and DP. Each hands back its answer beside the estate that it changed.
+// The calls on an object that stands: DL, AP and DP. Each gives the estate that it changed, or why it is refused.
 #![tactic(auto)]
 
 ghost use Rattle.std.specs.Prelude.{◌≡◌, ℕ, ◌<◌};
@@ -8,9 +8,9 @@ ghost use Rattle.calls.specs.Parts.{Alters};
 ghost use Rattle.calls.specs.declared.Call.TheVariants.{OnObject};
 ghost use Rattle.calls.specs.declared.ObjectCall.TheVariants.{Delete, AddPassword, DropPassword};
 
-use calls::replies::{becomes, goes, unaltered};
+use calls::replies::{becomes, goes};
 use calls::{Altered, Refusal, STORE_WORDS};
-use judge::{Judgement, Target, judge};
+use judge::{Target, judge};
 use rights::Rights;
 use state::objects::{free_password_place, has_password};
 use state::tables::object_based;
@@ -18,18 +18,16 @@ use state::{Frame, Table};
 use updates::objects::{add_password, drop_password};
 
 // DL: removes an object; those behind it close the gap.
-pub fn obj_delete(t: Table, store: &[u64], f: Frame, base: u64) -> Altered
+pub fn obj_delete(t: Table, store: &[u64], f: Frame, base: u64) -> Result<Altered, Refusal>
     ensures { (u : Limits) (d : ℕ) → d < 4 → Alters t u d f store.now (Delete base) result store.now }
 {
     if store.len() != STORE_WORDS {
-        return unaltered(t, Refusal::StoreLength);
+        return Err(Refusal::StoreLength);
     }
     if 128 <= base {
-        return unaltered(t, Refusal::OutOfRange);
+        return Err(Refusal::OutOfRange);
     }
-    let Judgement::Granted(pair) = judge(t, store, f, Target::Base(base), Rights::DESTROY) else {
-        return unaltered(t, Refusal::NotGranted);
-    };
+    judge(t, store, f, Target::Base(base), Rights::DESTROY).ok_or(Refusal::NotGranted)?;
     goes(t, base)
 }
 
@@ -48,47 +46,49 @@ pub fn obj_passwd_add(
     base: u64,
     password: u64,
     mode: u64,
-) -> Altered
+) -> Result<Altered, Refusal>
     ensures { (u : Limits) (d : ℕ) → d < 4 → Alters t u d f store.now (AddPassword base password mode) result store.now }
 {
     if store.len() != STORE_WORDS {
-        return unaltered(t, Refusal::StoreLength);
+        return Err(Refusal::StoreLength);
     }
     if !add_in_range(base, password, mode) {
-        return unaltered(t, Refusal::OutOfRange);
+        return Err(Refusal::OutOfRange);
     }
     if f.whole {
-        return unaltered(t, Refusal::Locked);
+        return Err(Refusal::Locked);
     }
-    let Judgement::Granted(pair) = judge(t, store, f, Target::Base(base), Rights::OWNER) else {
-        return unaltered(t, Refusal::NotGranted);
-    };
+    judge(t, store, f, Target::Base(base), Rights::OWNER).ok_or(Refusal::NotGranted)?;
     let o = object_based(t, base);
     if has_password(o, password) {
-        return unaltered(t, Refusal::HasPassword);
+        return Err(Refusal::HasPassword);
     }
-    if 4 <= free_password_place(o) {
-        return unaltered(t, Refusal::Full);
+    if free_password_place(o).is_none() {
+        return Err(Refusal::Full);
     }
     becomes(t, base, add_password(o, password, mode as u8))
 }
 
 // DP: drops a password of an object, or the registration that has it.
-pub fn obj_passwd_drop(t: Table, store: &[u64], f: Frame, base: u64, password: u64) -> Altered
+pub fn obj_passwd_drop(
+    t: Table,
+    store: &[u64],
+    f: Frame,
+    base: u64,
+    password: u64,
+) -> Result<Altered, Refusal>
     ensures { (u : Limits) (d : ℕ) → d < 4 → Alters t u d f store.now (DropPassword base password) result store.now }
 {
     if store.len() != STORE_WORDS {
-        return unaltered(t, Refusal::StoreLength);
+        return Err(Refusal::StoreLength);
     }
     if 128 <= base {
-        return unaltered(t, Refusal::OutOfRange);
+        return Err(Refusal::OutOfRange);
     }
-    let Judgement::Granted(pair) = judge(t, store, f, Target::Base(base), Rights::OWNER) else {
-        return unaltered(t, Refusal::NotGranted);
-    };
+    judge(t, store, f, Target::Base(base), Rights::OWNER).ok_or(Refusal::NotGranted)?;
     let o = object_based(t, base);
     if !has_password(o, password) {
-        return unaltered(t, Refusal::Missing);
+        return Err(Refusal::Missing);
     }
     becomes(t, base, drop_password(o, password))
 }

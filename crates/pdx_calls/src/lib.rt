@@ -1,41 +1,31 @@
-// The calls into and out of a PDX procedure, CA and RT: each hands back its answer beside the caller's domain.
+// The calls into and out of a PDX procedure, CA and RT: each hands back the caller's domain as it is then, or why it is refused.
 #![tactic(auto)]
 
-ghost use Rattle.std.specs.Prelude.{◌≡◌, not, ◌||◌, List, ℕ, ◌<◌, leb, ltb, eqb, length};
-ghost use Rattle.state.specs.Places.{entry_at};
+ghost use Rattle.std.specs.Prelude.{◌≡◌, not, ◌||◌, List, ℕ, ltb, eqb, length};
 ghost use Rattle.state.specs.declared.Table.{Table as Objects};
 ghost use Rattle.calls.specs.Arguments.{is_entry};
 ghost use Rattle.calls.specs.Changes.{entered};
 ghost use Rattle.calls.specs.Parts.{Moves};
 ghost use Rattle.calls.specs.declared.DomainCall.TheVariants.{PdxCall, PdxReturn};
 
-use calls::replies::{moved, stays};
+use calls::replies::moved;
 use calls::{Moved, Refusal, STORE_WORDS};
-use judge::{Judgement, Target, judge};
+use judge::{Target, judge};
 use rights::Rights;
 use state::tables::object_covering;
 use state::{Domain, Frame, Object, Table};
 use updates::domains::{restore_domain, save_domain};
 use updates::frames::{merge_list, only_list};
 
-// Whether the entry at a place does not stand, or is another address.
-fn entry_other(o: Object, address: u64, k: usize) -> bool
-    requires { k < 4 }
-    ensures { result ≡ (leb o.registration.count k || not (eqb (entry_at o k) address)) }
-{
-    let g = o.registration;
-    let entry = g.entries[k];
-    (g.count as usize <= k) | (entry as u64 != address)
-}
-
 // Whether the address is a registered entry of the object.
 fn is_entry(o: Object, address: u64) -> bool
     ensures { result ≡ is_entry o address }
 {
-    !(entry_other(o, address, 0)
-        & entry_other(o, address, 1)
-        & entry_other(o, address, 2)
-        & entry_other(o, address, 3))
+    let g = o.registration;
+    g.entries
+        .iter()
+        .take(usize::from(g.count))
+        .any(|entry| u64::from(*entry) == address)
 }
 
 // Whether there is room for what a PDX call puts in.
@@ -58,44 +48,48 @@ fn entered(choice: u64, f: Frame, o: Object) -> Frame
 }
 
 // CA: enters a registered procedure by one of its entries.
-pub fn pdx_call(t: Table, store: &[u64], m: Domain, entry: u64, choice: u64) -> Moved
+pub fn pdx_call(
+    t: Table,
+    store: &[u64],
+    m: Domain,
+    entry: u64,
+    choice: u64,
+) -> Result<Moved, Refusal>
     ensures { Moves t m store.now (PdxCall entry choice) result }
 {
     if store.len() != STORE_WORDS {
-        return stays(m, Refusal::StoreLength);
+        return Err(Refusal::StoreLength);
     }
     if 8192 <= entry {
-        return stays(m, Refusal::OutOfRange);
+        return Err(Refusal::OutOfRange);
     }
     if 2 <= choice {
-        return stays(m, Refusal::OutOfRange);
+        return Err(Refusal::OutOfRange);
     }
     let f = m.active;
     if f.whole {
-        return stays(m, Refusal::Locked);
+        return Err(Refusal::Locked);
     }
-    let Judgement::Granted(pair) = judge(t, store, f, Target::Address(entry), Rights::PDX) else {
-        return stays(m, Refusal::NotGranted);
-    };
+    judge(t, store, f, Target::Address(entry), Rights::PDX).ok_or(Refusal::NotGranted)?;
     let o = object_covering(t, entry / 64);
     if !is_entry(o, entry) {
-        return stays(m, Refusal::NotEntry);
+        return Err(Refusal::NotEntry);
     }
     if !has_room(choice, f) {
-        return stays(m, Refusal::Full);
+        return Err(Refusal::Full);
     }
     if 4 <= m.depth {
-        return stays(m, Refusal::Full);
+        return Err(Refusal::Full);
     }
-    moved(save_domain(m, entered(choice, f, o)), entry)
+    Ok(moved(save_domain(m, entered(choice, f, o)), entry))
 }
 
 // RT: returns from the procedure entered last.
-pub fn pdx_return(m: Domain) -> Moved
+pub fn pdx_return(m: Domain) -> Result<Moved, Refusal>
     ensures { (t : Objects) (words : List ℕ) → length words ≡ 8192 → Moves t m words PdxReturn result }
 {
     if m.depth == 0 {
-        return stays(m, Refusal::Missing);
+        return Err(Refusal::Missing);
     }
-    moved(restore_domain(m), 0)
+    Ok(moved(restore_domain(m), 0))
 }

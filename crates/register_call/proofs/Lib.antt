@@ -1,1 +1,1 @@
-pub mod RegisterRange
+pub mod Refused

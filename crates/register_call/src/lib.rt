@@ -1,71 +1,65 @@
 // RG: an object becomes a PDX procedure.
 #![tactic(auto)]
 
-ghost use Rattle.std.specs.Prelude.{◌≡◌, ℕ, ◌/◌, ◌<◌, ◌≤◌, true, cond, ◌||◌, leb, ltb};
+ghost use Rattle.std.specs.Prelude.{◌≡◌, ℕ, ◌/◌, ◌<◌, ◌≤◌, Bool, true, cond, ◌||◌, [], ◌∷◌, leb, ltb};
 ghost use Rattle.state.specs.Extent.{covers};
 ghost use Rattle.state.specs.declared.Accounts.{Accounts as Limits};
-ghost use Rattle.calls.specs.Arguments.{entries_all};
+ghost use Rattle.calls.specs.Arguments.{entry_of, entries_all};
 ghost use Rattle.calls.specs.Changes.{capability, registration};
 ghost use Rattle.calls.specs.Rules.{in_range};
 ghost use Rattle.calls.specs.Parts.{Alters};
 ghost use Rattle.calls.specs.declared.Call.TheVariants.{OnObject};
 ghost use Rattle.calls.specs.declared.ObjectCall.TheVariants.{Register};
 
-use calls::replies::{becomes, unaltered};
+use calls::replies::becomes;
 use calls::{Altered, Entries, Presented, Refusal, STORE_WORDS};
 use clists::live;
-use judge::{Judgement, Target, judge};
+use judge::{Target, judge};
 use rights::Rights;
 use state::extents::covers;
 use state::objects::has_password;
 use state::tables::object_based;
 use state::{Capability, Frame, Object, Registration, Table};
+use std::array;
 use updates::objects::with_registration;
 
-// Whether an entry is no argument, or an address of the store.
-fn entry_in_store(count: u64, k: u64, entry: u64) -> bool
-    ensures { result ≡ leb count k || ltb entry 8192 }
+// The four entries, in order.
+fn in_order(e: Entries) -> [u64; 4]
+    ensures { result ≡ e.first ∷ e.second ∷ e.third ∷ e.fourth ∷ [] }
 {
-    (count <= k) | (entry < 8192)
+    [e.first, e.second, e.third, e.fourth]
 }
 
-// Whether the entries that stand are addresses of the store.
-fn entries_in_store(e: Entries) -> bool
-    ensures { result ≡ entries_all (λ a. ltb a 8192) e }
+// Whether each entry that counts passes a test.
+fn entries_all<F: Fn(u64) -> bool>(e: Entries, test: F) -> bool
+    requires { F.IsAlwaysCallable test }
+    ensures { (p : ℕ → Bool) → ((a : ℕ) (b : Bool) → F.post test a b → b ≡ p a) → result ≡ entries_all p e }
 {
-    entry_in_store(e.count, 0, e.first)
-        & entry_in_store(e.count, 1, e.second)
-        & entry_in_store(e.count, 2, e.third)
-        & entry_in_store(e.count, 3, e.fourth)
+    in_order(e)
+        .iter()
+        .take(e.count as usize)
+        .all(|entry| test(*entry))
 }
 
-// Whether an entry is no argument, or inside the object.
-fn entry_inside(o: Object, count: u64, k: u64, entry: u64) -> bool
-    ensures { result ≡ leb count k || covers o (entry / 64) }
-{
-    (count <= k) | covers(o, entry / 64)
-}
-
-// Whether the entries that stand are inside the object.
+// Whether the entries that count are inside the object.
 fn entries_inside(o: Object, e: Entries) -> bool
     ensures { result ≡ entries_all (λ a. covers o (a / 64)) e }
 {
-    entry_inside(o, e.count, 0, e.first)
-        & entry_inside(o, e.count, 1, e.second)
-        & entry_inside(o, e.count, 2, e.third)
-        & entry_inside(o, e.count, 3, e.fourth)
+    entries_all(e, |entry| covers(o, entry / 64))
 }
 
 // Whether the arguments of RG are in range.
+#[tactic(auto, unfolding(calls::specs::Rules::in_range))]
 fn register_in_range(base: u64, password: u64, list: Presented, entries: Entries) -> bool
-    ensures { result ≡ in_range (OnObject (Register base password list entries)) }
+    ensures value { result ≡ in_range (OnObject (Register base password list entries)) }
+    ensures bounds { result ≡ true → (base < 128) × (list.page < 128) × (entries.count ≤ 4) × (entries_all (λ a. ltb a 8192) entries ≡ true) }
 {
     (base < 128)
         & (password != 0)
         & (list.page < 128)
         & (0 < entries.count)
         & (entries.count <= 4)
-        & entries_in_store(entries)
+        & entries_all(entries, |entry| entry < 8192)
 }
 
 // A presented capability as the state keeps it.
@@ -79,15 +73,15 @@ fn capability(l: Presented) -> Capability
     }
 }
 
-// An entry as the state keeps it: 0 where it is no argument.
-fn kept_entry(count: u64, k: u64, entry: u64) -> u16
-    requires { leb count k || ltb entry 8192 ≡ true }
-    ensures { result ≡ cond (ltb k count) entry 0 }
+// Entry k as the state keeps it: 0 where it is no argument.
+fn kept_entry(e: Entries, k: usize) -> u16
+    requires { (k < 4) × (entries_all (λ a. ltb a 8192) e ≡ true) }
+    ensures { result ≡ cond (ltb k e.count) (entry_of e k) 0 }
 {
-    if count <= k {
+    if e.count <= k as u64 {
         return 0;
     }
-    entry as u16
+    in_order(e)[k] as u16
 }
 
 // The registration that RG asks for.
@@ -96,15 +90,10 @@ fn registration(password: u64, l: Presented, e: Entries) -> Registration
     ensures { result ≡ registration password l e }
 {
     Registration {
-        password: password,
+        password,
         list: capability(l),
         count: e.count as u8,
-        entries: [
-            kept_entry(e.count, 0, e.first),
-            kept_entry(e.count, 1, e.second),
-            kept_entry(e.count, 2, e.third),
-            kept_entry(e.count, 3, e.fourth),
-        ],
+        entries: array::from_fn(|k| kept_entry(e, k)),
     }
 }
 
@@ -117,38 +106,33 @@ pub fn obj_cre_pdx(
     password: u64,
     list: Presented,
     entries: Entries,
-) -> Altered
+) -> Result<Altered, Refusal>
     ensures { (u : Limits) (d : ℕ) → d < 4 → Alters t u d f store.now (Register base password list entries) result store.now }
 {
     if store.len() != STORE_WORDS {
-        return unaltered(t, Refusal::StoreLength);
+        return Err(Refusal::StoreLength);
     }
     if !register_in_range(base, password, list, entries) {
-        return unaltered(t, Refusal::OutOfRange);
+        return Err(Refusal::OutOfRange);
     }
     if f.whole {
-        return unaltered(t, Refusal::Locked);
+        return Err(Refusal::Locked);
     }
-    let Judgement::Granted(pair) = judge(t, store, f, Target::Base(base), Rights::OWNER) else {
-        return unaltered(t, Refusal::NotGranted);
-    };
+    judge(t, store, f, Target::Base(base), Rights::OWNER).ok_or(Refusal::NotGranted)?;
     if !live(t, capability(list)) {
-        return unaltered(t, Refusal::NotGranted);
+        return Err(Refusal::NotGranted);
     }
     let o = object_based(t, base);
     if !entries_inside(o, entries) {
-        return unaltered(t, Refusal::NotEntry);
+        return Err(Refusal::NotEntry);
     }
     if has_password(o, password) {
-        return unaltered(t, Refusal::HasPassword);
+        return Err(Refusal::HasPassword);
     }
-    let g = o.registration;
-    if g.password != 0 {
-        return unaltered(t, Refusal::Full);
+    // A registration with the password 0 is none, as in the state's bytes.
+    if o.registration.password != 0 {
+        return Err(Refusal::Full);
     }
-    becomes(
-        t,
-        base,
-        with_registration(o, registration(password, list, entries)),
-    )
+    let registered = with_registration(o, registration(password, list, entries));
+    becomes(t, base, registered)
 }

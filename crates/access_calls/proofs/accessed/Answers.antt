@@ -7,8 +7,5 @@ returns-then-store-ne-STORE_WORDS c = rw (ne_eqb _ _ c.if-store-ne-STORE_WORDS.t
 pub returns-then-address-ge8192 : goal.returns-then-address-ge8192
 returns-then-address-ge8192 c = rw (eq-eqb _ _ c.if-store-ne-STORE_WORDS.false, le-ltb _ _ c.if-address-ge8192.true)
 
-pub returns-in_default : goal.returns-in_default
-returns-in_default c = rw (eq-eqb _ _ c.if-store-ne-STORE_WORDS.false, lt-ltb _ _ c.if-address-ge8192.false, ← c.judge.ensures, c.in_default.is)
-
 pub returns : goal.returns
-returns c = rw (eq-eqb _ _ c.if-store-ne-STORE_WORDS.false, lt-ltb _ _ c.if-address-ge8192.false, ← c.judge.ensures, c.in-Granted.is)
+returns c = rw (eq-eqb _ _ c.if-store-ne-STORE_WORDS.false, lt-ltb _ _ c.if-address-ge8192.false, ← c.judge.ensures) c.ok_or.ensures.value

@@ -1,12 +1,12 @@
 use Prim.Native.Nat.{ℕ, ◌<◌}
-use mathlib.Core.Path.{◌≡◌, refl, sym, ◌∙◌}
+use mathlib.Core.Path.{◌≡◌, refl}
 use native.Mathlib.Nat.{le_of_eq}
 use native.Mathlib.Omega.{arith}
 use borrow.Author.Tests.{le-ltb, lt-ltb}
 use Rattle.bounded.specs.Bools.{and_both}
 use Rattle.calls.proofs.Parts.{answers_length, answers_range}
 use Rattle.calls.specs.declared.Access.TheVariants.{Lookup}
-use Rattle.access_calls.specs.Laws.{refused, granted, rights_out}
+use Rattle.access_calls.specs.Laws.{looked_up, rights_out}
 use Rattle.access_calls.proofs.apd_lookup.Goals as goal
 
 some_right : (n : ℕ) → (n ≡ 0 → ⊥) → 0 < n
@@ -21,10 +21,7 @@ returns-then-rights-eq0 c = answers_range _ _ _ (Lookup _ _) c.if-store-ne-STORE
 pub returns-then-rights-ge32 : goal.returns-then-rights-ge32
 returns-then-rights-ge32 c = answers_range _ _ _ (Lookup _ _) c.if-store-ne-STORE_WORDS.false (rights_out _ _ (rw (lt-ltb _ _ (some_right _ c.if-rights-eq0.false), le-ltb _ _ c.if-rights-ge32.true))) refl refl
 
-pub returns-in-Granted : goal.returns-in-Granted
-returns-in-Granted c = let k = and_both (lt-ltb _ _ (some_right _ c.if-rights-eq0.false)) (lt-ltb _ 32 c.if-rights-ge32.false) in
-    granted _ _ _ (Lookup _ _) k (sym c.accessed-found.ensures ∙ c.in-Granted.is)
-
-pub returns-in-Refused : goal.returns-in-Refused
-returns-in-Refused c = let k = and_both (lt-ltb _ _ (some_right _ c.if-rights-eq0.false)) (lt-ltb _ 32 c.if-rights-ge32.false) in
-    refused _ _ _ (Lookup _ _) k (sym c.accessed-found.ensures ∙ c.in-Refused.is)
+pub returns : goal.returns
+returns c =
+    let k = and_both (lt-ltb _ _ (some_right _ c.if-rights-eq0.false)) (lt-ltb _ 32 c.if-rights-ge32.false) in
+    looked_up _ _ _ _ _ _ k c.accessed.ensures

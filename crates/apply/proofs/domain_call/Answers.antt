@@ -1,8 +1,9 @@
+use mathlib.Core.Path.{refl}
 use Rattle.calls.proofs.Parts.{moves_length}
 use Rattle.apply.proofs.domain_call.Goals as goal
 
 pub returns-then-store-ne-STORE_WORDS : goal.returns-then-store-ne-STORE_WORDS
-returns-then-store-ne-STORE_WORDS c = moves_length _ _ _ _ c.if-store-ne-STORE_WORDS.true c.stays.ensures
+returns-then-store-ne-STORE_WORDS c = moves_length _ _ _ _ c.if-store-ne-STORE_WORDS.true refl
 
 pub returns-in-Insert : goal.returns-in-Insert
 returns-in-Insert c = rw c.in-Insert.is (c.apd_insert.ensures _ c.if-store-ne-STORE_WORDS.false)

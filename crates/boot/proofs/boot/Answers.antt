@@ -4,10 +4,10 @@ use Rattle.calls.specs.Laws.Returns.{caller_known}
 use Rattle.boot.proofs.boot.Goals as goal
 
 pub booted-requires : goal.booted-requires
-booted-requires c = (caller_known c.args.store.now c.args.d _ (sym c.caller_of-caller.ensures ∙ c.in-Known.is)).0.long
+booted-requires c = (caller_known c.args.store.now c.args.d _ (sym c.caller_of.ensures ∙ c.in-Ok.is)).0.long
 
-pub returns-in-Known : goal.returns-in-Known
-returns-in-Known c = c.booted.ensures ∙ boot_known _ _ _ _ (sym c.caller_of-caller.ensures ∙ c.in-Known.is)
+pub returns-in-Ok : goal.returns-in-Ok
+returns-in-Ok c = c.booted.ensures ∙ boot_known _ _ _ _ (sym c.caller_of.ensures ∙ c.in-Ok.is)
 
-pub returns-in-Refused : goal.returns-in-Refused
-returns-in-Refused c = rw (c.answered.ensures, c.empty_state.ensures) (boot_unknown _ _ _ _ (sym c.caller_of-caller.ensures ∙ c.in-Refused.is))
+pub returns-in-Err : goal.returns-in-Err
+returns-in-Err c = rw (c.answered.ensures, c.empty_state.ensures) (boot_unknown _ _ _ _ (sym c.caller_of.ensures ∙ c.in-Err.is))

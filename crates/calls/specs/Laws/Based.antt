@@ -1,6 +1,5 @@
 -- A call on the object with a base: what its code hands back behind checks 5 and 6.
-use Rattle.std.specs.Prelude.{ℕ, ◌/◌, ◌≡◌, refl, true, List, [], ◌∷◌, ltb}
-use Rattle.std.proofs.Math.Option.{Option, none}
+use Rattle.std.specs.Prelude.{ℕ, ◌/◌, ◌≡◌, refl, true, List, [], ◌∷◌, ltb, Option, Some, None, Result}
 use Rattle.std.proofs.Common.{arith, ltb-true}
 use Rattle.state.specs.Places.{no_accounts}
 use Rattle.state.specs.declared.Estate.{Estate}
@@ -10,8 +9,6 @@ use Rattle.state.specs.declared.Domain.{Domain}
 use Rattle.state.specs.declared.Accounts.{Accounts}
 use Rattle.judge.specs.Judged.{judged}
 use Rattle.judge.specs.declared.Target.TheVariants.{Base}
-use Rattle.judge.specs.declared.Judgement.{Judgement}
-use Rattle.judge.specs.declared.Judgement.TheVariants.{Granted, Refused}
 use Rattle.calls.specs.View.{rights, Found, View, first_failing, found_by, passes}
 use Rattle.calls.specs.Answers.{no_fields}
 use Rattle.calls.specs.Changes.{estate}
@@ -22,6 +19,7 @@ use Rattle.calls.specs.Laws.Parts.{parts, view_of, alters_done}
 use Rattle.calls.specs.declared.Call.TheVariants.{OnObject}
 use Rattle.calls.specs.declared.ObjectCall.{ObjectCall}
 use Rattle.calls.specs.declared.ObjectCall.TheVariants.{Create, Delete, AddPassword, DropPassword, Register}
+use Rattle.calls.specs.declared.Refusal.{Refusal}
 use Rattle.calls.specs.declared.Altered.{Altered}
 
 -- of every call on objects: its value is 0, and it has no fields
@@ -38,27 +36,27 @@ plain (DropPassword b k) = record { zero = λ v. refl; bare = λ v. refl }
 plain (Register b k l es) = record { zero = λ v. refl; bare = λ v. refl }
 
 -- what the search for the object with a base gives, by the judgement
-abbrev pub based : Table → List ℕ → ℕ → Judgement → Option Found
+abbrev pub based : Table → List ℕ → ℕ → Option ℕ → Option Found
 based t words b j = found_by (world (parts t no_accounts) words) (Base b) j
 
 -- a view of a call: the judgement, and whether what it presents is live
-pub record Sees (t : Table) (words : List ℕ) (c : ObjectCall) (b : ℕ) (j : Judgement) (v : View) : Type 0 where
+pub record Sees (t : Table) (words : List ℕ) (c : ObjectCall) (b : ℕ) (j : Option ℕ) (v : View) : Type 0 where
   pub found : v.found ≡ based t words b j
   pub live : v.live ≡ passes t (presented (OnObject c))
 
-module _ (t : Table) (x : Accounts) (d : ℕ) (f : Frame) (words : List ℕ) (c : ObjectCall) {b r : ℕ} {a j : Judgement} (e : Entered words d)
+module _ (t : Table) (x : Accounts) (d : ℕ) (f : Frame) (words : List ℕ) (c : ObjectCall) {b r : ℕ} {a j : Option ℕ} (e : Entered words d)
     (w : wanted (OnObject c) ≡ rights (Base b) r) (n : in_range (OnObject c) ≡ true)
     (u : unlocked (OnObject c) f ≡ true) (p : a ≡ judged t words f (Base b) r) (g : a ≡ j) where
   pub sees : (m : Domain) → m.active ≡ f → Sees t words c b j (view_of t x words d m (OnObject c))
   sees m q = record { found = rw (w, q, ← p, g) (told j); live = refl }
     where
-      told : (i : Judgement) → found_by (world (parts t x) words) (Base b) i ≡ based t words b i
-      told (Granted pair) = refl
-      told Refused = refl
+      told : (i : Option ℕ) → found_by (world (parts t x) words) (Base b) i ≡ based t words b i
+      told (Some pair) = refl
+      told None = refl
 
   -- done: its estate becomes another
-  pub based_done : {y : Altered} (z : Estate) → ltb b 128 ≡ true → ((v : View) → Sees t words c b j v → first_failing (late d (OnObject c) v) ≡ none)
-      → ((v : View) → Sees t words c b j v → changes d (OnObject c) v ≡ estate (b / 32) z ∷ []) → y ≡ altered t b z → Alters t x d f words c y words
+  pub based_done : {y : Result Altered Refusal} (z : Estate) → ltb b 128 ≡ true → ((v : View) → Sees t words c b j v → first_failing (late d (OnObject c) v) ≡ None)
+      → ((v : View) → Sees t words c b j v → changes d (OnObject c) v ≡ estate (b / 32) z ∷ []) → y ≡ altered b z → Alters t x d f words c y words
   based_done z i l k h =
-      alters_done t x d f words c e (rw (h, i)) (rw (h, i) (let m = ltb-true b 128 i in omega arith)) n u (λ m q. l _ (sees m q))
+      alters_done t x d f words c e (λ new j. let m = ltb-true b 128 i in let k : new.place ≡ b / 32 = cc in omega arith) n u (λ m q. l _ (sees m q))
       (λ m q s. rw (h, i, k _ (sees m q), (plain c).zero, (plain c).bare))

@@ -1,15 +1,12 @@
 -- What stands behind the ends of the caller's lists decides no call: document 02, T-01.
-use Rattle.std.specs.Prelude.{ℕ, suc, ◌*◌, ◌≡◌, List, [], ◌∷◌, ◌++◌, length, get_or, set, drop, replicate}
+use Rattle.std.specs.Prelude.{ℕ, suc, ◌*◌, ◌≡◌, List, [], ◌∷◌, ◌++◌, length, get_or, set, drop, replicate, Option, Some, None, Ok}
 use Rattle.std.proofs.Math.Path.{refl}
 use Rattle.std.proofs.Common.{ap, zero-add, suc-add, arith}
-use Rattle.std.proofs.Math.Option.{Option, none, some}
 use Rattle.std.proofs.Math.Nat.{suc_inj}
 use Rattle.state.specs.Places.{domain_at}
 use Rattle.state.specs.declared.Frame.{Frame}
 use Rattle.state.specs.declared.State.{State}
 use Rattle.judge.specs.Laws.Behind.{SameToEnds, behind_ignored}
-use Rattle.judge.specs.declared.Judgement.{Judgement}
-use Rattle.judge.specs.declared.Judgement.TheVariants.{Granted, Refused}
 use Rattle.calls.specs.Answers.{number_of}
 use Rattle.calls.specs.View.{Want, nothing, rights, View, first_failing}
 use Rattle.calls.specs.Changes.{zeroed, apply_all}
@@ -25,7 +22,6 @@ use Rattle.calls.specs.declared.ObjectCall.TheVariants.{Create, Delete, AddPassw
 use Rattle.calls.specs.declared.DomainCall.{DomainCall}
 use Rattle.calls.specs.declared.DomainCall.TheVariants.{Insert, Remove, Get, Lock, PdxCall, PdxReturn}
 use Rattle.calls.specs.declared.Refusal.{Refusal}
-use Rattle.calls.specs.declared.Answer.TheVariants.{Done}
 
 -- two stores of the same length that agree at a place agree there once both are written alike
 set_alike : (ws ws' : List ℕ) (a x b : ℕ) → length ws ≡ length ws' → get_or ws b 0 ≡ get_or ws' b 0 → get_or (set ws a x) b 0 ≡ get_or (set ws' a x) b 0
@@ -87,40 +83,40 @@ module _ (s : State) (words words' : List ℕ) (d : ℕ) (m : SameToEnds s.table
       × ((apply_all (changes d c v) (world s words)).state ≡ (apply_all (changes d c v') (world s words')).state)
       × SameAfter words words' (apply_all (changes d c v) (world s words)).words (apply_all (changes d c v') (world s words')).words
 
-  access_alike : (c : Access) (j : Judgement) → ComesAlike (OnStore c) (sees (world s words) d (OnStore c) j) (sees (world s words') d (OnStore c) j)
+  access_alike : (c : Access) (j : Option ℕ) → ComesAlike (OnStore c) (sees (world s words) d (OnStore c) j) (sees (world s words') d (OnStore c) j)
   unfolding late changes
-  access_alike (Read a) (Granted p) = (refl, (λ e. e), refl, refl, λ a h. h)
-  access_alike (Read a) Refused = (refl, (λ e. refl), refl, refl, λ a h. h)
-  access_alike (Write a x) (Granted p) = (refl, (λ e. refl), refl, refl, λ b h. set_alike words words' a x b m.long h)
-  access_alike (Write a x) Refused = (refl, (λ e. refl), refl, refl, λ b h. set_alike words words' a x b m.long h)
-  access_alike (Execute a) (Granted p) = (refl, (λ e. refl), refl, refl, λ a h. h)
-  access_alike (Execute a) Refused = (refl, (λ e. refl), refl, refl, λ a h. h)
-  access_alike (Lookup a r) (Granted p) = (refl, (λ e. refl), refl, refl, λ a h. h)
-  access_alike (Lookup a r) Refused = (refl, (λ e. refl), refl, refl, λ a h. h)
+  access_alike (Read a) (Some p) = (refl, (λ e. e), refl, refl, λ a h. h)
+  access_alike (Read a) None = (refl, (λ e. refl), refl, refl, λ a h. h)
+  access_alike (Write a x) (Some p) = (refl, (λ e. refl), refl, refl, λ b h. set_alike words words' a x b m.long h)
+  access_alike (Write a x) None = (refl, (λ e. refl), refl, refl, λ b h. set_alike words words' a x b m.long h)
+  access_alike (Execute a) (Some p) = (refl, (λ e. refl), refl, refl, λ a h. h)
+  access_alike (Execute a) None = (refl, (λ e. refl), refl, refl, λ a h. h)
+  access_alike (Lookup a r) (Some p) = (refl, (λ e. refl), refl, refl, λ a h. h)
+  access_alike (Lookup a r) None = (refl, (λ e. refl), refl, refl, λ a h. h)
 
-  object_alike : (c : ObjectCall) (j : Judgement) → ComesAlike (OnObject c) (sees (world s words) d (OnObject c) j) (sees (world s words') d (OnObject c) j)
+  object_alike : (c : ObjectCall) (j : Option ℕ) → ComesAlike (OnObject c) (sees (world s words) d (OnObject c) j) (sees (world s words') d (OnObject c) j)
   unfolding late changes
   object_alike (Create p n k a) j = (refl, (λ e. refl), refl, refl, λ b h. zeroed_alike (64 * p) (64 * n) words words' b m.long h)
-  object_alike (Delete b) (Granted p) = (refl, (λ e. refl), refl, refl, λ a h. h)
-  object_alike (Delete b) Refused = (refl, (λ e. refl), refl, refl, λ a h. h)
-  object_alike (AddPassword b k m) (Granted p) = (refl, (λ e. refl), refl, refl, λ a h. h)
-  object_alike (AddPassword b k m) Refused = (refl, (λ e. refl), refl, refl, λ a h. h)
-  object_alike (DropPassword b k) (Granted p) = (refl, (λ e. refl), refl, refl, λ a h. h)
-  object_alike (DropPassword b k) Refused = (refl, (λ e. refl), refl, refl, λ a h. h)
-  object_alike (Register b k x es) (Granted p) = (refl, (λ e. refl), refl, refl, λ a h. h)
-  object_alike (Register b k x es) Refused = (refl, (λ e. refl), refl, refl, λ a h. h)
+  object_alike (Delete b) (Some p) = (refl, (λ e. refl), refl, refl, λ a h. h)
+  object_alike (Delete b) None = (refl, (λ e. refl), refl, refl, λ a h. h)
+  object_alike (AddPassword b k m) (Some p) = (refl, (λ e. refl), refl, refl, λ a h. h)
+  object_alike (AddPassword b k m) None = (refl, (λ e. refl), refl, refl, λ a h. h)
+  object_alike (DropPassword b k) (Some p) = (refl, (λ e. refl), refl, refl, λ a h. h)
+  object_alike (DropPassword b k) None = (refl, (λ e. refl), refl, refl, λ a h. h)
+  object_alike (Register b k x es) (Some p) = (refl, (λ e. refl), refl, refl, λ a h. h)
+  object_alike (Register b k x es) None = (refl, (λ e. refl), refl, refl, λ a h. h)
 
-  domain_alike : (c : DomainCall) (j : Judgement) → ComesAlike (OnDomain c) (sees (world s words) d (OnDomain c) j) (sees (world s words') d (OnDomain c) j)
+  domain_alike : (c : DomainCall) (j : Option ℕ) → ComesAlike (OnDomain c) (sees (world s words) d (OnDomain c) j) (sees (world s words') d (OnDomain c) j)
   unfolding late changes
   domain_alike (Insert i x) j = (refl, (λ e. refl), refl, refl, λ a h. h)
   domain_alike (Remove i) j = (refl, (λ e. refl), refl, refl, λ a h. h)
   domain_alike Get j = (refl, (λ e. refl), refl, refl, λ a h. h)
   domain_alike (Lock i) j = (refl, (λ e. refl), refl, refl, λ a h. h)
-  domain_alike (PdxCall a ch) (Granted p) = (refl, (λ e. refl), refl, refl, λ a h. h)
-  domain_alike (PdxCall a ch) Refused = (refl, (λ e. refl), refl, refl, λ a h. h)
+  domain_alike (PdxCall a ch) (Some p) = (refl, (λ e. refl), refl, refl, λ a h. h)
+  domain_alike (PdxCall a ch) None = (refl, (λ e. refl), refl, refl, λ a h. h)
   domain_alike PdxReturn j = (refl, (λ e. refl), refl, refl, λ a h. h)
 
-  comes_alike : (c : Call) (j : Judgement) → ComesAlike c (sees (world s words) d c j) (sees (world s words') d c j)
+  comes_alike : (c : Call) (j : Option ℕ) → ComesAlike c (sees (world s words) d c j) (sees (world s words') d c j)
   comes_alike (OnStore c) j = access_alike c j
   comes_alike (OnObject c) j = object_alike c j
   comes_alike (OnDomain c) j = domain_alike c j
@@ -135,7 +131,7 @@ module _ (s : State) (words words' : List ℕ) (d : ℕ) (m : SameToEnds s.table
       f : Frame
       f = (domain_at s d).active
 
-      j : Judgement
+      j : Option ℕ
       j = judged_on (world s words) f (wanted c)
 
       v : ComesAlike c (sees (world s words) d c j) (sees (world s words') d c j)
@@ -146,5 +142,5 @@ module _ (s : State) (words words' : List ℕ) (d : ℕ) (m : SameToEnds s.table
       same (rights target r) = behind_ignored s.table words words' f target r m
 
       go : (o : Option Refusal) → AnsweredAlike words words' c (concluded o (world s words) d c (sees (world s words) d c j)) (concluded o (world s words') d c (sees (world s words') d c j))
-      go none = record { number = refl; answer = λ e. ap Done (v.1 e); fields = v.2; state = v.3; after = v.4 }
-      go (some r) = record { number = refl; answer = λ e. refl; fields = refl; state = refl; after = λ a h. h }
+      go None = record { number = refl; answer = λ e. ap Ok (v.1 e); fields = v.2; state = v.3; after = v.4 }
+      go (Some r) = record { number = refl; answer = λ e. refl; fields = refl; state = refl; after = λ a h. h }

@@ -1,9 +1,8 @@
 -- What BT leaves: a sound state, and a store of 8,192 words.
-use Rattle.std.specs.Prelude.{ℕ, ◌*◌, ◌<◌, ◌≡◌, List, [], ◌∷◌, ◌↔◌, ltb, length}
+use Rattle.std.specs.Prelude.{ℕ, ◌*◌, ◌<◌, ◌≡◌, List, [], ◌∷◌, ◌↔◌, ltb, length, Option, Some, None, Ok, Err}
 use Rattle.std.proofs.Math.Path.{refl, ap}
 use Rattle.std.proofs.Math.Bool.{true}
 use mathlib.Core.Logic.Iff
-use Rattle.std.proofs.Math.Option.{Option, none, some}
 use Rattle.std.proofs.Common.{arith, length-set}
 use Rattle.std.proofs.lemmas.List.{length-replicate, get_or-replicate}
 use Rattle.bounded.specs.Fill.{tabulate_at}
@@ -28,10 +27,8 @@ use Rattle.calls.specs.Laws.Plan.{plan_bounds, boot_accounts_sound}
 use borrow.Author.Tests.{eq-eqb, lt-ltb}
 use Rattle.calls.specs.Parts.{caller_of}
 use Rattle.calls.specs.Laws.Returns.{caller_known, caller_unknown}
-use Rattle.calls.specs.declared.Caller.TheVariants.{Known, Refused as Caller-as-Refused}
 use Rattle.calls.specs.declared.Refusal.{Refusal}
 use Rattle.calls.specs.declared.Refusal.TheVariants.{StoreLength, NoDomain, OutOfRange}
-use Rattle.calls.specs.declared.Answer.TheVariants.{Refused}
 
 home_estate_lem : (plan : List ℕ) (d : ℕ) → 0 < home_of plan d → account_of plan d < 4 → estate_ok (home_estate plan d) d ≡ true
 unfolding home_estate new_object insert_object place_above has_room first
@@ -73,11 +70,11 @@ boot_checks words d plan =
 
 module _ (words : List ℕ) (d : ℕ) (plan : List ℕ) where
   -- BT by a caller that is known, and by one that is not
-  pub boot_known : (k : ℕ) → caller_of (length words) d ≡ Known k → booted_by words plan ≡ boot words d plan
+  pub boot_known : (k : ℕ) → caller_of (length words) d ≡ Ok k → booted_by words plan ≡ boot words d plan
   unfolding boot
   boot_known k h = let (e, q) = caller_known words d k h in rw (eq-eqb _ 8192 e.long, lt-ltb d 4 e.known)
 
-  pub boot_unknown : (why : Refusal) → caller_of (length words) d ≡ Caller-as-Refused why → refused (world empty_state words) why ≡ boot words d plan
+  pub boot_unknown : (why : Refusal) → caller_of (length words) d ≡ Err why → refused (world empty_state words) why ≡ boot words d plan
   unfolding boot
   boot_unknown why h =
       caller_unknown (λ x. refused (world empty_state words) why ≡ booted plan words x) words d (check OutOfRange (plan_ok plan) ∷ []) why h refl
@@ -90,12 +87,12 @@ module _ (words : List ℕ) (d : ℕ) (plan : List ℕ) where
   answering : Answering (λ o. (booted plan words o).outcome.answer)
   answering = record { value = 0; done = refl; refused = λ r. refl }
 
-  boot_said : (why : Refusal) → (boot words d plan).outcome.answer ≡ Refused why ↔ first_failing (boot_checks words d plan) ≡ some why
+  boot_said : (why : Refusal) → (boot words d plan).outcome.answer ≡ Err why ↔ first_failing (boot_checks words d plan) ≡ Some why
   unfolding boot
   boot_said why = answers_refused answering (first_failing (boot_checks words d plan)) why
 
   -- BT is refused exactly where one of them fails and each before it holds
-  pub boot_first : (why : Refusal) → (boot words d plan).outcome.answer ≡ Refused why ↔ FailsFirst (boot_checks words d plan) why
+  pub boot_first : (why : Refusal) → (boot words d plan).outcome.answer ≡ Err why ↔ FailsFirst (boot_checks words d plan) why
   boot_first why = Iff.trans (boot_said why) (first_fails (boot_checks words d plan) why)
 
   -- what `refused_changes_nothing` is for BT, which takes no state and gives the empty one
@@ -123,5 +120,5 @@ module _ (words : List ℕ) (d : ℕ) (plan : List ℕ) where
   boot_sound = go (first_failing (boot_checks words d plan)) refl
     where
       go : (o : Option Refusal) → first_failing (boot_checks words d plan) ≡ o → sound (booted plan words o).outcome.state ≡ true
-      go none e = boot_state_sound plan ((none_fails (boot_checks words d plan)).0 e).1.1.0
-      go (some r) e = empty_sound
+      go None e = boot_state_sound plan ((none_fails (boot_checks words d plan)).0 e).1.1.0
+      go (Some r) e = empty_sound

@@ -1,11 +1,10 @@
 -- DEMAND 2 at the door: which answers a call gets by the rights that it wants and the capability that it presents.
 -- Which calls are answered 7 is in proofs/Granted.antt.
-use Rattle.std.specs.Prelude.{ℕ, List, [], ◌++◌, ◌↔◌}
+use Rattle.std.specs.Prelude.{ℕ, List, [], ◌++◌, ◌↔◌, Option, Some, None}
 use Rattle.std.proofs.Math.Path.{◌≡◌, refl}
 use Rattle.std.proofs.Common.{sym, ◌∙◌, true≢false}
 use Rattle.std.proofs.Math.Bool.{true}
 use mathlib.Core.Logic.Iff
-use Rattle.std.proofs.Math.Option.{Option, none, some}
 use native.Mathlib.Omega.{arith}
 use Rattle.rights.specs.Modes.{read, write, execute, destroy}
 use Rattle.state.specs.Places.{domain_at}
@@ -13,8 +12,6 @@ use Rattle.judge.specs.Judged.{judged}
 use Rattle.judge.specs.Laws.Exactly.{granted_when}
 use Rattle.judge.specs.declared.Target.{Target}
 use Rattle.judge.specs.declared.Target.TheVariants.{Address, Base}
-use Rattle.judge.specs.declared.Judgement.{Judgement}
-use Rattle.judge.specs.declared.Judgement.TheVariants.{Granted, Refused}
 use Rattle.calls.specs.View.{World, Want, nothing, rights, View, Check, search, found_by, passes, is_some}
 use Rattle.calls.specs.Rules.{rule, wanted, presented, early, granted_check, presented_check, late, checks, view}
 use Rattle.calls.specs.Authority.{answered, Reaches, GrantableTo, WantGrantable, Authorised, DoneWhen}
@@ -50,9 +47,9 @@ module _ (w : World) (d : ℕ) (c : Call) where
       (Iff.trans (Iff.and (granted_hold (wanted c) _ refl) (presented_hold (presented c) _ refl))
       (λ h. record { grantable = h.0; passing = h.1 }, λ x. (x.grantable, x.passing)))
     where
-      found : (target : Target) (j : Judgement) → is_some (found_by w target j) ≡ true ↔ ((a : ℕ) × (j ≡ Granted a))
-      found target (Granted a) = (λ h. (a, refl), λ h. refl)
-      found target Refused = (λ h. absurd (true≢false (sym h)), λ h. let (a, e) = h in let z : ◌≡◌ {A = ℕ} 0 1 = cc in absurd (omega arith))
+      found : (target : Target) (j : Option ℕ) → is_some (found_by w target j) ≡ true ↔ ((a : ℕ) × (j ≡ Some a))
+      found target (Some a) = (λ h. (a, refl), λ h. refl)
+      found target None = (λ h. absurd (true≢false (sym h)), λ h. let (a, e) = h in let z : ◌≡◌ {A = ℕ} 0 1 = cc in absurd (omega arith))
 
       granted_hold : (want : Want) (v : View) → v.found ≡ search judged w (domain_at w.state d).active want
           → AllHold (granted_check want v) ↔ WantGrantable w d want
@@ -63,17 +60,17 @@ module _ (w : World) (d : ℕ) (c : Call) where
 
       presented_hold : (p : Option Presented) (v : View) → v.live ≡ passes w.state.table p
           → AllHold (presented_check p v) ↔ passes w.state.table p ≡ true
-      presented_hold none v e = (λ h. refl, λ h. tt)
-      presented_hold (some l) v e = (λ h. sym e ∙ h.0, λ h. (e ∙ h, tt))
+      presented_hold None v e = (λ h. refl, λ h. tt)
+      presented_hold (Some l) v e = (λ h. sym e ∙ h.0, λ h. (e ∙ h, tt))
 
   pub sevens_level : Level NotGranted sevens
   sevens_level = go (wanted c) (presented c)
     where
       go : (want : Want) (p : Option Presented) → Level NotGranted (granted_check want (view judged w d c) ++ presented_check p (view judged w d c))
-      go nothing none = tt
-      go nothing (some l) = (refl, tt)
-      go (rights target r) none = (refl, tt)
-      go (rights target r) (some l) = (refl, (refl, tt))
+      go nothing None = tt
+      go nothing (Some l) = (refl, tt)
+      go (rights target r) None = (refl, tt)
+      go (rights target r) (Some l) = (refl, (refl, tt))
 
   -- EVERY CALL is done exactly where it comes to be judged, is authorised, and passes the checks from 8 on.
   pub answers_done : answered w d c ≡ 0 ↔ (Reaches w d c × (Authorised w d c × AllHold later))
@@ -84,11 +81,11 @@ module _ (w : World) (d : ℕ) (c : Call) where
 
 module _ (w : World) (d : ℕ) where
   -- a call that wants rights and presents nothing is authorised exactly where they are grantable
-  pub alone : (c : Call) {target : Target} {r : ℕ} → wanted c ≡ rights target r → presented c ≡ none → Authorised w d c ↔ GrantableTo w d target r
+  pub alone : (c : Call) {target : Target} {r : ℕ} → wanted c ≡ rights target r → presented c ≡ None → Authorised w d c ↔ GrantableTo w d target r
   alone c e n = (λ x. rw e at x.grantable, λ g. record { grantable = rw e g; passing = rw n refl })
 
   -- such a call, where it makes no checks from 8 on, is done exactly so
-  pub granted_done : (c : Call) {target : Target} {r : ℕ} → wanted c ≡ rights target r → presented c ≡ none → later w d c ≡ []
+  pub granted_done : (c : Call) {target : Target} {r : ℕ} → wanted c ≡ rights target r → presented c ≡ None → later w d c ≡ []
       → DoneWhen w d c (GrantableTo w d target r)
   granted_done c e n z =
       Iff.trans (answers_done w d c) (Iff.and Iff.rfl (Iff.trans (λ h. h.0, λ x. (x, rw z tt)) (alone c e n)))

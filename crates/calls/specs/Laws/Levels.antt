@@ -1,9 +1,8 @@
 -- Lists of checks by the places of their refusals: which refusal a list answers where its checks come in order, and so a call.
-use Rattle.std.specs.Prelude.{ℕ, suc, ◌<◌, ◌≤◌, ◌≡◌, true, false, List, [], ◌∷◌, ◌++◌, ◌↔◌, leb, ltb}
+use Rattle.std.specs.Prelude.{ℕ, suc, ◌<◌, ◌≤◌, ◌≡◌, true, false, List, [], ◌∷◌, ◌++◌, ◌↔◌, leb, ltb, Option, Some, None}
 use Rattle.std.proofs.Math.Path.{refl}
 use Rattle.std.proofs.Common.{sym, ap, ◌∙◌, true≢false, arith, leb-true, eqb-true, eq-eqb, ltb-true, lt-ltb}
 use mathlib.Core.Logic.Iff
-use Rattle.std.proofs.Math.Option.{Option, none, some}
 use Rattle.bounded.specs.Bools.{and_left, and_right}
 use Rattle.state.specs.Places.{domain_at}
 use Rattle.judge.specs.Judged.{judged}
@@ -26,13 +25,13 @@ all_append (check r holds ∷ xs) ys =
 
 -- the number that a list of checks is answered with
 abbrev pub number : Option Refusal → ℕ
-number none = 0
-number (some r) = refusal_number r
+number None = 0
+number (Some r) = refusal_number r
 
 -- it is a refusal's exactly where that refusal is the first
-pub number_first : (o : Option Refusal) (why : Refusal) → number o ≡ refusal_number why ↔ o ≡ some why
-number_first none why = (λ h. absurd (omega (arith, refusal_number_lem why)), λ h. let z : ◌≡◌ {A = ℕ} 0 1 = cc in absurd (omega arith))
-number_first (some r) why = (λ h. ap some (numbers_differ r why h), λ h. ap number h)
+pub number_first : (o : Option Refusal) (why : Refusal) → number o ≡ refusal_number why ↔ o ≡ Some why
+number_first None why = (λ h. absurd (omega (arith, refusal_number_lem why)), λ h. let z : ◌≡◌ {A = ℕ} 0 1 = cc in absurd (omega arith))
+number_first (Some r) why = (λ h. ap Some (numbers_differ r why h), λ h. ap number h)
 
 -- each check of the list has a place before `n`; answers `why`
 abbrev pub Below : ℕ → List Check → Type 0
@@ -45,7 +44,7 @@ Level why (check r holds ∷ cs) = (r ≡ why) × Level why cs
 
 -- past checks of earlier places `why` is answered exactly where these hold and the later checks answer it
 pub past_earlier : (why : Refusal) (front back : List Check) → Below (refusal_place why) front
-    → first_failing (front ++ back) ≡ some why ↔ (AllHold front × (first_failing back ≡ some why))
+    → first_failing (front ++ back) ≡ Some why ↔ (AllHold front × (first_failing back ≡ Some why))
 past_earlier why [] back b = (λ h. (tt, h), λ h. h.1)
 past_earlier why (check r true ∷ front) back b =
     let more = past_earlier why front back b.1 in
@@ -54,7 +53,7 @@ past_earlier why (check r false ∷ front) back b =
     (λ h. let e : r ≡ why = cc in absurd (omega (arith, b.0, ap refusal_place e)), λ h. absurd (true≢false (sym h.0.0)))
 
 -- where the places are `n` or later, such a one is answered
-from_above : (n : ℕ) (why : Refusal) (cs : List Check) → ascending n cs ≡ true → first_failing cs ≡ some why → n ≤ refusal_place why
+from_above : (n : ℕ) (why : Refusal) (cs : List Check) → ascending n cs ≡ true → first_failing cs ≡ Some why → n ≤ refusal_place why
 unfolding ascending
 from_above n why [] a h = let z : ◌≡◌ {A = ℕ} 0 1 = cc in absurd (omega arith)
 from_above n why (check r true ∷ cs) a h =
@@ -65,11 +64,11 @@ from_above n why (check r false ∷ cs) a h =
 
 -- checks that answer `why`, with later ones of later places, answer it exactly where they do not all hold
 pub level_fails : (why : Refusal) (same back : List Check) → Level why same → ascending (suc (refusal_place why)) back ≡ true
-    → first_failing (same ++ back) ≡ some why ↔ (AllHold same → ⊥)
+    → first_failing (same ++ back) ≡ Some why ↔ (AllHold same → ⊥)
 level_fails why [] back l a = (λ h. absurd (omega (arith, from_above (suc (refusal_place why)) why back a h)), λ h. absurd (h tt))
 level_fails why (check r true ∷ same) back l a =
     let more = level_fails why same back l.1 a in (λ h t. more.0 h t.1, λ h. more.1 (λ t. h (refl, t)))
-level_fails why (check r false ∷ same) back l a = (λ h t. true≢false (sym t.0), λ h. ap some l.0)
+level_fails why (check r false ∷ same) back l a = (λ h t. true≢false (sym t.0), λ h. ap Some l.0)
 
 module _ (w : World) (d : ℕ) (c : Call) where
   -- a call is answered with the number of the first check that fails
@@ -78,8 +77,8 @@ module _ (w : World) (d : ℕ) (c : Call) where
   step_number = go (first_failing (all_checks w d c))
     where
       go : (o : Option Refusal) → number_of (concluded o w d c (view judged w d c)).outcome.answer ≡ number o
-      go none = refl
-      go (some r) = refl
+      go None = refl
+      go (Some r) = refl
 
   -- and so with that of `why` exactly where the checks of earlier places hold, and those that answer `why` do not all
   pub answers_level : (why : Refusal) (front same back : List Check) → all_checks w d c ≡ front ++ (same ++ back) → Below (refusal_place why) front → Level why same

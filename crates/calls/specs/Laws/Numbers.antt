@@ -1,5 +1,5 @@
 -- The paper's numbers of what a call hands back, answer by answer: document 01, "The forms we expect", the last sentence.
-use Rattle.std.specs.Prelude.{ℕ, ◌≡◌, Bool, true, false, List, [], ◌∷◌}
+use Rattle.std.specs.Prelude.{ℕ, ◌≡◌, Bool, true, false, List, [], ◌∷◌, Err}
 use Rattle.std.proofs.Common.{ap}
 use Rattle.bounded.specs.Fill.{tabulate}
 use Rattle.state.specs.Places.{empty_state, slot_at}
@@ -15,7 +15,6 @@ use Rattle.calls.specs.declared.Call.{Call}
 use Rattle.calls.specs.declared.Call.TheVariants.{OnStore, OnObject, OnDomain}
 use Rattle.calls.specs.declared.DomainCall.TheVariants.{Insert, Remove, Get, Lock, PdxCall, PdxReturn}
 use Rattle.calls.specs.declared.Refusal.{Refusal}
-use Rattle.calls.specs.declared.Answer.TheVariants.{Refused}
 use Rattle.calls.specs.declared.Outcome.{Outcome}
 
 -- THE NUMBERS OF AN OUTCOME, as `apply` and `boot` promise it, are those of the definition: `step` or `boot`
@@ -26,7 +25,7 @@ pub unchanged_numbers : (w : World) (why : Refusal) (r : Result) → Unchanged w
 unchanged_numbers w why r u = rw (u.fields, u.number, u.value)
 
 -- BT: the refusal's number and the value 0 where it is refused, and else 0 twice
-pub boot_refused_numbers : (words : List ℕ) (d : ℕ) (plan : List ℕ) (why : Refusal) → (boot words d plan).outcome.answer ≡ Refused why
+pub boot_refused_numbers : (words : List ℕ) (d : ℕ) (plan : List ℕ) (why : Refusal) → (boot words d plan).outcome.answer ≡ Err why
     → answer_of (boot words d plan) ≡ refusal_number why ∷ 0 ∷ []
 boot_refused_numbers words d plan why h = unchanged_numbers (world empty_state words) why (boot words d plan) (boot_refused words d plan why h)
 

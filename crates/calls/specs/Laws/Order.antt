@@ -1,9 +1,8 @@
 -- The order of the checks: document 01, "In checking order", with 14 and 15 behind 9 (document 02, T-05). The places never fall, and the first
 -- check that fails answers. What follows for whole lists of checks stands in proofs/Order.antt.
-use Rattle.std.specs.Prelude.{ℕ, zero, suc, ◌<◌, ◌≤◌, ◌≡◌, refl, Bool, true, false, ◌&&◌, List, [], ◌∷◌, ◌++◌, ◌↔◌, leb}
+use Rattle.std.specs.Prelude.{ℕ, zero, suc, ◌<◌, ◌≤◌, ◌≡◌, refl, Bool, true, false, ◌&&◌, List, [], ◌∷◌, ◌++◌, ◌↔◌, leb, Option, Some, None, Ok, Err}
 use Rattle.std.proofs.Common.{sym, ap, subst, ◌∙◌, true≢false, arith, leb-true, le-leb}
 use mathlib.Core.Logic.Iff
-use Rattle.std.proofs.Math.Option.{Option, none, some}
 use Rattle.bounded.specs.Bools.{and_left, and_right, and_both}
 use Rattle.judge.specs.Judged.{judged}
 use Rattle.calls.specs.Answers.{refusal_number, refusal_place, refusals, numbered, number_of}
@@ -17,8 +16,7 @@ use Rattle.calls.specs.declared.ObjectCall.TheVariants.{Create, Delete, AddPassw
 use Rattle.calls.specs.declared.DomainCall.TheVariants.{Insert, Remove, Get, Lock, PdxCall, PdxReturn}
 use Rattle.calls.specs.declared.Refusal.{Refusal}
 use Rattle.calls.specs.declared.Refusal.TheVariants.{StoreLength, Unsound, NoDomain, OutOfRange, Locked, NotGranted, NotEntry, NoRun, NotPermitted, LimitPassed, HasPassword, Full, Missing}
-use Rattle.calls.specs.declared.Answer.{Answer}
-use Rattle.calls.specs.declared.Answer.TheVariants.{Done, Refused}
+use Rattle.calls.specs.Answers.{Answer}
 
 -- the checks of a call, from 2 on
 abbrev pub all_checks : World → ℕ → Call → List Check
@@ -74,30 +72,30 @@ FailFrom n [] = Unit {0}
 FailFrom n (check r holds ∷ cs) = (holds ≡ false → n ≤ refusal_place r) × FailFrom n cs
 
 -- none fails exactly where each holds
-pub none_fails : (cs : List Check) → first_failing cs ≡ none ↔ AllHold cs
+pub none_fails : (cs : List Check) → first_failing cs ≡ None ↔ AllHold cs
 none_fails cs = (to cs, from cs)
   where
-    to : (cs : List Check) → first_failing cs ≡ none → AllHold cs
+    to : (cs : List Check) → first_failing cs ≡ None → AllHold cs
     to [] h = tt
     to (check r true ∷ cs) h = (refl, to cs h)
     to (check r false ∷ cs) h = let z : ◌≡◌ {A = ℕ} 0 1 = cc in absurd (omega arith)
 
-    from : (cs : List Check) → AllHold cs → first_failing cs ≡ none
+    from : (cs : List Check) → AllHold cs → first_failing cs ≡ None
     from [] h = refl
     from (check r holds ∷ cs) h = rw h.0 (from cs h.1)
 
 -- the first failing check is one before which each holds
-pub first_fails : (cs : List Check) (why : Refusal) → first_failing cs ≡ some why ↔ FailsFirst cs why
-first_fails cs why = (to cs, λ f. subst (λ (l : List Check). first_failing l ≡ some why) (sym f.split) (from f.before f.after f.hold))
+pub first_fails : (cs : List Check) (why : Refusal) → first_failing cs ≡ Some why ↔ FailsFirst cs why
+first_fails cs why = (to cs, λ f. subst (λ (l : List Check). first_failing l ≡ Some why) (sym f.split) (from f.before f.after f.hold))
   where
-    to : (cs : List Check) → first_failing cs ≡ some why → FailsFirst cs why
+    to : (cs : List Check) → first_failing cs ≡ Some why → FailsFirst cs why
     to [] h = let z : ◌≡◌ {A = ℕ} 0 1 = cc in absurd (omega arith)
     to (check r true ∷ cs) h =
         let f = to cs h in
         record { before = check r true ∷ f.before; after = f.after; split = ap (λ l. check r true ∷ l) f.split; hold = (refl, f.hold) }
     to (check r false ∷ cs) h = let e : r ≡ why = cc in record { before = []; after = cs; split = rw e; hold = tt }
 
-    from : (before after : List Check) → AllHold before → first_failing (before ++ (check why false ∷ after)) ≡ some why
+    from : (before after : List Check) → AllHold before → first_failing (before ++ (check why false ∷ after)) ≡ Some why
     from [] after h = refl
     from (check r holds ∷ before) after h = rw h.0 (from before after h.1)
 
@@ -109,7 +107,7 @@ ascend_from m n (check r holds ∷ cs) l h =
     (λ e. omega arith, ascend_from m (refusal_place r) cs (omega arith) (and_right (leb n (refusal_place r)) _ h))
 
 -- where the places never fall, the first failing check has the earliest place of those that fail
-pub first_earliest : (n : ℕ) (cs : List Check) (why : Refusal) → ascending n cs ≡ true → first_failing cs ≡ some why → FailFrom (refusal_place why) cs
+pub first_earliest : (n : ℕ) (cs : List Check) (why : Refusal) → ascending n cs ≡ true → first_failing cs ≡ Some why → FailFrom (refusal_place why) cs
 unfolding ascending
 first_earliest n [] why a h = tt
 first_earliest n (check r true ∷ cs) why a h =
@@ -120,7 +118,7 @@ first_earliest n (check r false ∷ cs) why a h =
     (λ f. k, ascend_from (refusal_place why) (refusal_place r) cs k (and_right (leb n (refusal_place r)) _ a))
 
 -- a refusal is found by its number
-pub number_back : (r : Refusal) → numbered (refusal_number r) refusals ≡ some r
+pub number_back : (r : Refusal) → numbered (refusal_number r) refusals ≡ Some r
 number_back StoreLength = refl
 number_back Unsound = refl
 number_back NoDomain = refl
@@ -137,49 +135,49 @@ number_back Missing = refl
 
 -- so two refusals never share a number,
 pub numbers_differ : (r q : Refusal) → refusal_number r ≡ refusal_number q → r ≡ q
-numbers_differ r q h = let e : some r ≡ some q = sym (number_back r) ∙ ap (λ n. numbered n refusals) h ∙ number_back q in cc
+numbers_differ r q h = let e : Some r ≡ Some q = sym (number_back r) ∙ ap (λ n. numbered n refusals) h ∙ number_back q in cc
 
 -- and none has that of a done call
 pub refusal_number_lem : (r : Refusal) → 0 < refusal_number r
 refusal_number_lem r = go (refusal_number r) (number_back r)
   where
-    go : (n : ℕ) → numbered n refusals ≡ some r → 0 < n
+    go : (n : ℕ) → numbered n refusals ≡ Some r → 0 < n
     go zero h = let z : ◌≡◌ {A = ℕ} 0 1 = cc in absurd (omega arith)
     go (suc n) h = omega arith
 
 -- what is answered where no check fails, and where one does
 pub record Answering (answer : Option Refusal → Answer) : Type 0 where
   pub value : ℕ
-  pub done : answer none ≡ Done value
-  pub refused : (r : Refusal) → answer (some r) ≡ Refused r
+  pub done : answer None ≡ Ok value
+  pub refused : (r : Refusal) → answer (Some r) ≡ Err r
 
 module _ {answer : Option Refusal → Answer} (a : Answering answer) where
   -- such an answer is a refusal exactly where a check fails, and by it
-  pub answers_refused : (o : Option Refusal) (why : Refusal) → answer o ≡ Refused why ↔ o ≡ some why
+  pub answers_refused : (o : Option Refusal) (why : Refusal) → answer o ≡ Err why ↔ o ≡ Some why
   answers_refused o why = (to o, λ e. ap answer e ∙ a.refused why)
     where
-      to : (o : Option Refusal) → answer o ≡ Refused why → o ≡ some why
-      to none h = let e = a.done in let z : ◌≡◌ {A = ℕ} 0 1 = cc in absurd (omega arith)
-      to (some r) h = let e = a.refused r in cc
+      to : (o : Option Refusal) → answer o ≡ Err why → o ≡ Some why
+      to None h = let e = a.done in let z : ◌≡◌ {A = ℕ} 0 1 = cc in absurd (omega arith)
+      to (Some r) h = let e = a.refused r in cc
 
   -- and the number 0 exactly where none fails
-  pub answers_done : (o : Option Refusal) → number_of (answer o) ≡ 0 ↔ o ≡ none
+  pub answers_done : (o : Option Refusal) → number_of (answer o) ≡ 0 ↔ o ≡ None
   answers_done o = (to o, λ e. ap (λ x. number_of (answer x)) e ∙ ap number_of a.done)
     where
-      to : (o : Option Refusal) → number_of (answer o) ≡ 0 → o ≡ none
-      to none h = refl
-      to (some r) h = absurd (omega (arith, refusal_number_lem r, rw (a.refused r) at h))
+      to : (o : Option Refusal) → number_of (answer o) ≡ 0 → o ≡ None
+      to None h = refl
+      to (Some r) h = absurd (omega (arith, refusal_number_lem r, rw (a.refused r) at h))
 
 module _ (w : World) (d : ℕ) (c : Call) where
   answering : Answering (λ o. (concluded o w d c (view judged w d c)).outcome.answer)
   answering = record { value = _; done = refl; refused = λ r. refl }
 
-  pub step_refused : (why : Refusal) → (step w d c).outcome.answer ≡ Refused why ↔ first_failing (all_checks w d c) ≡ some why
+  pub step_refused : (why : Refusal) → (step w d c).outcome.answer ≡ Err why ↔ first_failing (all_checks w d c) ≡ Some why
   unfolding step_by
   step_refused why = answers_refused answering (first_failing (all_checks w d c)) why
 
   -- THE FIRST FAILING CHECK ANSWERS: a call is refused exactly where a check of that number fails and each check before it holds
-  pub refused_first : (why : Refusal) → (step w d c).outcome.answer ≡ Refused why ↔ FailsFirst (all_checks w d c) why
+  pub refused_first : (why : Refusal) → (step w d c).outcome.answer ≡ Err why ↔ FailsFirst (all_checks w d c) why
   refused_first why = Iff.trans (step_refused why) (first_fails (all_checks w d c) why)
 
   -- it is done exactly where each check holds

@@ -1,6 +1,6 @@
 -- What a call can come to: it is refused, or passes each check and is done. That each call does, and that a refused one changes nothing, is in
 -- proofs/Passed.antt.
-use Rattle.std.specs.Prelude.{ℕ, ◌<◌, ◌≡◌, true, length}
+use Rattle.std.specs.Prelude.{ℕ, ◌<◌, ◌≡◌, true, length, Err}
 use Rattle.state.specs.Places.{domain_at}
 use Rattle.judge.specs.Judged.{judged}
 use Rattle.calls.specs.Answers.{refusal_number, number_of, value_of, no_fields}
@@ -10,7 +10,6 @@ use Rattle.calls.specs.Step.{Result, refused, done}
 use Rattle.calls.specs.Laws.Order.{AllHold}
 use Rattle.calls.specs.declared.Call.{Call}
 use Rattle.calls.specs.declared.Refusal.{Refusal}
-use Rattle.calls.specs.declared.Answer.TheVariants.{Refused}
 
 -- the result of a call that is refused by `why`: its number, the value 0, no fields, and the state and the words that came in
 pub record Unchanged (w : World) (why : Refusal) (r : Result) : Type 0 where
@@ -22,7 +21,7 @@ pub record Unchanged (w : World) (why : Refusal) (r : Result) : Type 0 where
 
 -- the result is such a one wherever it is a refusal
 abbrev pub KeptIfRefused : World → Result → Type 0
-KeptIfRefused w r = (why : Refusal) → r.outcome.answer ≡ Refused why → Unchanged w why r
+KeptIfRefused w r = (why : Refusal) → r.outcome.answer ≡ Err why → Unchanged w why r
 
 -- every check from 4 on holds, and check 2
 pub record Passes (w : World) (d : ℕ) (c : Call) : Type 0 where

@@ -1,11 +1,12 @@
-use Prim.Native.Nat.{ℕ, ◌-◌}
+use Prim.Native.Nat.{ℕ}
+use Rattle.std.specs.Prelude.{Ok}
 use mathlib.Core.List.{List}
 use Rattle.state.specs.declared.Object.{Object}
 use Rattle.state.specs.declared.Table.{Table}
 use Rattle.state.specs.declared.Frame.{Frame}
 use Rattle.judge.specs.Search.{granting, denying, slot_first}
 use Rattle.judge.specs.Walk.{Walking}
-use Rattle.judge.specs.declared.Verdict.{Verdict}
+use Rattle.judge.specs.Search.{Verdict}
 use Rattle.judge.proofs.frame_verdict.Given as goal
 
 module _ (t : Table) (words : List ℕ) (f : Frame) (o : Object) (wanted : ℕ) where
@@ -21,7 +22,4 @@ module _ (t : Table) (words : List ℕ) (f : Frame) (o : Object) (wanted : ℕ) 
   AtSlot k found = Walking denial grant 8 k found
 
 abbrev pub invariant-loop-k : goal.invariant-loop-k
-invariant-loop-k l = AtSlot l.t l.store l.f l.o l.wanted.bits l.k l.found
-
-abbrev pub decreases-loop-k : goal.decreases-loop-k
-decreases-loop-k l = 8 - l.k
+invariant-loop-k l = AtSlot l.t l.store l.f l.o l.wanted.bits l.k (Ok l.found)

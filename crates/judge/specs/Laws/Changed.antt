@@ -1,5 +1,5 @@
 -- Which searches document 02's T-07 changed: exactly those granted before where a denying pair stands behind the first granting one.
-use Rattle.std.specs.Prelude.{ℕ, ◌<◌, ◌≡◌, Bool, true, false, cond, List, ◌↔◌, ◌⊎◌, eqb}
+use Rattle.std.specs.Prelude.{ℕ, ◌<◌, ◌≡◌, Bool, true, false, cond, List, ◌↔◌, ◌⊎◌, eqb, Option, Some, None, Ok, Err}
 use Rattle.std.proofs.Math.Path.{refl}
 use Rattle.std.proofs.Common.{ap, sym, ◌∙◌, true≢false, inl, inr, ⊎_elim, arith}
 use Rattle.rights.specs.Modes.{grants, denies}
@@ -7,6 +7,7 @@ use Rattle.rights.specs.Laws.{never_both}
 use Rattle.state.specs.Extent.{free}
 use Rattle.state.specs.declared.Table.{Table}
 use Rattle.state.specs.declared.Frame.{Frame}
+use Rattle.judge.specs.Search.{the_denial}
 use Rattle.judge.specs.Search.{verdict_of, judgement_of, targeted}
 use Rattle.judge.specs.Former.{deciding, formerly_searched}
 use Rattle.judge.specs.Judged.{judged}
@@ -16,9 +17,6 @@ use Rattle.judge.specs.Laws.Pairs.{order}
 use Rattle.judge.specs.Laws.Verdicts.{first_exactly, tested}
 use Rattle.judge.specs.Laws.Exactly.{denied_or_not, granted_exactly, denied_refused}
 use Rattle.judge.specs.declared.Target.{Target}
-use Rattle.judge.specs.declared.Verdict.{Verdict}
-use Rattle.judge.specs.declared.Judgement.{Judgement}
-use Rattle.judge.specs.declared.Judgement.TheVariants.{Granted, Refused}
 
 -- a pair does not decide exactly where it is passed over
 undecided : (wanted mode at : ℕ) → deciding (verdict_of mode wanted at) ≡ false ↔ PassedOver wanted mode
@@ -26,7 +24,7 @@ unfolding verdict_of
 undecided wanted mode at = (go (grants mode wanted) (denies mode wanted) refl refl, λ p. rw (p.no_grant, p.no_denial))
   where
     go : (g d : Bool) → grants mode wanted ≡ g → denies mode wanted ≡ d
-        → deciding (cond g (Verdict.Granted at) (cond d Verdict.Denied Verdict.Passed)) ≡ false → PassedOver wanted mode
+        → deciding (cond g (Ok (Some at)) (cond d (Err the_denial) (Ok None))) ≡ false → PassedOver wanted mode
     go true d p q x = absurd (true≢false x)
     go false true p q x = absurd (true≢false x)
     go false false p q x = record { no_grant = p; no_denial = q }
@@ -40,7 +38,7 @@ pub record FormerlyAllowed (t : Table) (words : List ℕ) (f : Frame) (target : 
 -- The former search grants by the first granting pair, and a denying pair stands behind it in a live list.
 pub record DeniedBehind (t : Table) (words : List ℕ) (f : Frame) (target : Target) (wanted : ℕ) : Type 0 where
   pub address : ℕ
-  pub granted : formerly_searched t words f target wanted ≡ Granted address
+  pub granted : formerly_searched t words f target wanted ≡ Some address
   pub pair : GrantsFirst t words f (targeted t target) wanted address
   pub denial_address : ℕ
   pub denial : DeniesAt t words f (targeted t target) wanted denial_address
@@ -52,7 +50,7 @@ before_frame i j slot place (inr b) l = omega (arith, b.0)
 
 module _ (t : Table) (words : List ℕ) (f : Frame) (target : Target) (wanted : ℕ) where
   -- The former search grants by the pair at `a` exactly where that pair is the first that decides, and grants.
-  pub formerly_exactly : (a : ℕ) → formerly_searched t words f target wanted ≡ Granted a ↔ FormerlyAllowed t words f target wanted a
+  pub formerly_exactly : (a : ℕ) → formerly_searched t words f target wanted ≡ Some a ↔ FormerlyAllowed t words f target wanted a
   unfolding formerly_searched
   formerly_exactly a =
       let exactly = first_exactly deciding refl (λ b. refl) t words f (targeted t target) wanted (PassedOver wanted) (undecided wanted) a in (
@@ -61,7 +59,7 @@ module _ (t : Table) (words : List ℕ) (f : Frame) (target : Target) (wanted : 
       )
 
   -- what is granted was granted before, by the same pair
-  kept : (a : ℕ) → judged t words f target wanted ≡ Granted a → formerly_searched t words f target wanted ≡ Granted a
+  kept : (a : ℕ) → judged t words f target wanted ≡ Some a → formerly_searched t words f target wanted ≡ Some a
   kept a h =
       let x = (granted_exactly t words f target wanted a).0 h in
       let p = x.pair.in_clist in
@@ -78,7 +76,7 @@ module _ (t : Table) (words : List ℕ) (f : Frame) (target : Target) (wanted : 
       })
 
   -- what was granted and is not has a denying pair behind the first granting one
-  denied_behind : (a : ℕ) → formerly_searched t words f target wanted ≡ Granted a → judged t words f target wanted ≡ Refused
+  denied_behind : (a : ℕ) → formerly_searched t words f target wanted ≡ Some a → judged t words f target wanted ≡ None
       → DeniedBehind t words f target wanted
   denied_behind a h r = ⊎_elim (λ d. by d.1 (order _ _ p.slot p.place)) (λ u. absurd (clash (granted u))) (denied_or_not t words f (targeted t target) wanted)
     where
@@ -91,10 +89,10 @@ module _ (t : Table) (words : List ℕ) (f : Frame) (target : Target) (wanted : 
       first : GrantsFirst t words f (targeted t target) wanted a
       first = record { in_clist = p; granting = x.pair.granting; before = λ i j b l. (x.pair.before i j b l).no_grant }
 
-      granted : Undenied t words f (targeted t target) wanted → judged t words f target wanted ≡ Granted a
+      granted : Undenied t words f (targeted t target) wanted → judged t words f target wanted ≡ Some a
       granted u = (granted_exactly t words f target wanted a).1 (record { stands = x.stands; some_right = x.some_right; pair = first; undenied = u })
 
-      clash : judged t words f target wanted ≡ Granted a → ⊥
+      clash : judged t words f target wanted ≡ Some a → ⊥
       clash g = let z : ◌≡◌ {A = ℕ} 0 1 = cc in omega arith
 
       by : {b : ℕ} (d : DeniesAt t words f (targeted t target) wanted b)
@@ -107,24 +105,24 @@ module _ (t : Table) (words : List ℕ) (f : Frame) (target : Target) (wanted : 
       by {b} d (inr z) = record { address = a; granted = h; pair = first; denial_address = b; denial = d; behind = z }
 
   -- A search that T-07 changed is now refused.
-  pub changed_refused : DeniedBehind t words f target wanted → judged t words f target wanted ≡ Refused
+  pub changed_refused : DeniedBehind t words f target wanted → judged t words f target wanted ≡ None
   changed_refused b = denied_refused t words f target wanted b.denial_address b.denial
 
   changed_or_not : DeniedBehind t words f target wanted ⊎ (judged t words f target wanted ≡ formerly_searched t words f target wanted)
   changed_or_not = go _ _ refl refl
     where
-      go : (j k : Judgement) → judged t words f target wanted ≡ j → formerly_searched t words f target wanted ≡ k
+      go : (j k : Option ℕ) → judged t words f target wanted ≡ j → formerly_searched t words f target wanted ≡ k
           → DeniedBehind t words f target wanted ⊎ (judged t words f target wanted ≡ formerly_searched t words f target wanted)
-      go (Granted a) k e g = inr (e ∙ sym (kept a e))
-      go Refused (Granted a) e g = inl (denied_behind a g e)
-      go Refused Refused e g = inr (e ∙ sym g)
+      go (Some a) k e g = inr (e ∙ sym (kept a e))
+      go None (Some a) e g = inl (denied_behind a g e)
+      go None None e g = inr (e ∙ sym g)
 
   -- WHAT T-07 CHANGES: the searches that now give something else are exactly those that were granted where a denying pair stands behind
   -- the first granting one.
   pub changed_exactly : (judged t words f target wanted ≡ formerly_searched t words f target wanted → ⊥) ↔ DeniedBehind t words f target wanted
   changed_exactly = (λ h. ⊎_elim (λ b. b) (λ s. absurd (h s)) changed_or_not, λ b s. clash b (sym b.granted ∙ sym s ∙ changed_refused b))
     where
-      clash : (b : DeniedBehind t words f target wanted) → Granted b.address ≡ Refused → ⊥
+      clash : (b : DeniedBehind t words f target wanted) → Some b.address ≡ None → ⊥
       clash b e = let z : ◌≡◌ {A = ℕ} 0 1 = cc in omega arith
 
   -- Every other search gives what it gave.

@@ -1,5 +1,5 @@
 -- Exactly when an access is granted, and when it is refused: document 01, "How an access is judged", rules 2 to 4, and document 02, T-07.
-use Rattle.std.specs.Prelude.{ℕ, ◌<◌, Bool, List, ◌↔◌, ◌⊎◌, eqb}
+use Rattle.std.specs.Prelude.{ℕ, ◌<◌, Bool, List, ◌↔◌, ◌⊎◌, eqb, Option, Some, None, Ok, Err}
 use Rattle.std.proofs.Math.Path.{◌≡◌, refl, sym}
 use Rattle.std.proofs.Common.{ap, ◌∙◌, true≢false, arith}
 use Rattle.std.proofs.Math.Bool.{true, false, cond}
@@ -9,6 +9,7 @@ use Rattle.state.specs.Extent.{free}
 use Rattle.state.specs.declared.Object.{Object}
 use Rattle.state.specs.declared.Table.{Table}
 use Rattle.state.specs.declared.Frame.{Frame}
+use Rattle.judge.specs.Search.{the_denial}
 use Rattle.judge.specs.Search.{pair_verdict, granting, denying, frame_first, frame_verdict, judgement_of, targeted}
 use Rattle.judge.specs.Judged.{judged}
 use Rattle.judge.specs.Pairs.{pairs_at, mode_at, address_at, EachPair}
@@ -16,13 +17,11 @@ use Rattle.judge.specs.Granting.{GrantsFirst, DeniesAt, Undenied, Grantable, All
 use Rattle.judge.specs.Laws.First.{FirstPasses, NonePasses, frame_cases, frame_none}
 use Rattle.judge.specs.Laws.Verdicts.{granting_is, denying_is, pair_at, first_exactly, tested, judged_by}
 use Rattle.judge.specs.declared.Target.{Target}
-use Rattle.judge.specs.declared.Verdict.{Verdict}
-use Rattle.judge.specs.declared.Judgement.{Judgement}
-use Rattle.judge.specs.declared.Judgement.TheVariants.{Granted, Refused}
+use Rattle.judge.specs.Search.{Verdict}
 
 module _ (t : Table) (words : List ℕ) (f : Frame) (o : Object) (wanted : ℕ) where
   -- the first granting pair
-  granted_first : (a : ℕ) → frame_first granting t words f o wanted ≡ Verdict.Granted a ↔ GrantsFirst t words f o wanted a
+  granted_first : (a : ℕ) → frame_first granting t words f o wanted ≡ Ok (Some a) ↔ GrantsFirst t words f o wanted a
   granted_first =
       first_exactly granting refl (λ a. refl) t words f o wanted _ (λ mode at. (λ h. sym (granting_is mode wanted at) ∙ h, λ h. granting_is mode wanted at ∙ h))
 
@@ -49,7 +48,7 @@ module _ (t : Table) (words : List ℕ) (f : Frame) (o : Object) (wanted : ℕ) 
     λ u. ap denying (frame_none denying refl t words f o wanted (none_denies.1 u)),
   )
 
-  verdict_exactly : (a : ℕ) → frame_verdict t words f o wanted ≡ Verdict.Granted a ↔ (GrantsFirst t words f o wanted a × Undenied t words f o wanted)
+  verdict_exactly : (a : ℕ) → frame_verdict t words f o wanted ≡ Ok (Some a) ↔ (GrantsFirst t words f o wanted a × Undenied t words f o wanted)
   unfolding frame_verdict
   verdict_exactly a = (
     go (denying (frame_first denying t words f o wanted)) refl,
@@ -57,7 +56,7 @@ module _ (t : Table) (words : List ℕ) (f : Frame) (o : Object) (wanted : ℕ) 
   )
     where
       go : (b : Bool) → denying (frame_first denying t words f o wanted) ≡ b
-          → cond b Verdict.Denied (frame_first granting t words f o wanted) ≡ Verdict.Granted a → GrantsFirst t words f o wanted a × Undenied t words f o wanted
+          → cond b (Err the_denial) (frame_first granting t words f o wanted) ≡ Ok (Some a) → GrantsFirst t words f o wanted a × Undenied t words f o wanted
       go true e h = let z : ◌≡◌ {A = ℕ} 0 1 = cc in absurd (omega arith)
       go false e h = ((granted_first a).0 h, undenied_exactly.0 e)
 
@@ -80,7 +79,7 @@ module _ (t : Table) (words : List ℕ) (f : Frame) (o : Object) (wanted : ℕ) 
 
 module _ (t : Table) (words : List ℕ) (f : Frame) (target : Target) (wanted : ℕ) where
   -- BY WHICH PAIR: the judgement grants by the pair at `a` exactly where that pair is the first that grants, and no pair anywhere denies.
-  pub granted_exactly : (a : ℕ) → judged t words f target wanted ≡ Granted a ↔ Allowed t words f target wanted a
+  pub granted_exactly : (a : ℕ) → judged t words f target wanted ≡ Some a ↔ Allowed t words f target wanted a
   granted_exactly a = (
     λ h. allowed (tested (free (targeted t target)) (eqb wanted 0) _ a (sym (judged_by t words f target wanted) ∙ h)),
     λ x.
@@ -88,14 +87,14 @@ module _ (t : Table) (words : List ℕ) (f : Frame) (target : Target) (wanted : 
         ∙ rw (x.stands, x.some_right) (ap judgement_of ((verdict_exactly t words f (targeted t target) wanted a).1 (x.pair, x.undenied))),
   )
     where
-      allowed : ((free (targeted t target) ≡ false) × (eqb wanted 0 ≡ false)) × (frame_verdict t words f (targeted t target) wanted ≡ Verdict.Granted a)
+      allowed : ((free (targeted t target) ≡ false) × (eqb wanted 0 ≡ false)) × (frame_verdict t words f (targeted t target) wanted ≡ Ok (Some a))
           → Allowed t words f target wanted a
       allowed h =
           let v = (verdict_exactly t words f (targeted t target) wanted a).0 h.1 in
           record { stands = h.0.0; some_right = h.0.1; pair = v.0; undenied = v.1 }
 
   -- DEMAND 2, as T-07 has it: access is granted exactly where some granting pair stands in a live list, and no denying pair anywhere.
-  pub granted_when : ((a : ℕ) × (judged t words f target wanted ≡ Granted a)) ↔ Grantable t words f target wanted
+  pub granted_when : ((a : ℕ) × (judged t words f target wanted ≡ Some a)) ↔ Grantable t words f target wanted
   granted_when = (λ g. grantable g.0 ((granted_exactly g.0).0 g.1), granted)
     where
       grantable : (a : ℕ) → Allowed t words f target wanted a → Grantable t words f target wanted
@@ -110,31 +109,31 @@ module _ (t : Table) (words : List ℕ) (f : Frame) (target : Target) (wanted : 
             undenied = x.undenied;
           }
 
-      granted : Grantable t words f target wanted → (a : ℕ) × (judged t words f target wanted ≡ Granted a)
+      granted : Grantable t words f target wanted → (a : ℕ) × (judged t words f target wanted ≡ Some a)
       granted x =
           let p = x.in_clist in
           let g = some_first t words f (targeted t target) wanted p.slot p.place p.in_frame p.in_list x.granting in
           (g.0, (granted_exactly g.0).1 (record { stands = x.stands; some_right = x.some_right; pair = g.1; undenied = x.undenied }))
 
   -- It is refused exactly where that is not so.
-  pub refused_when : judged t words f target wanted ≡ Refused ↔ (Grantable t words f target wanted → ⊥)
+  pub refused_when : judged t words f target wanted ≡ None ↔ (Grantable t words f target wanted → ⊥)
   refused_when = (
     λ h x. let (a, e) = granted_when.1 x in let z : ◌≡◌ {A = ℕ} 0 1 = cc in omega arith,
     refused _ refl,
   )
     where
-      refused : (j : Judgement) → judged t words f target wanted ≡ j → (Grantable t words f target wanted → ⊥)
-          → judged t words f target wanted ≡ Refused
-      refused (Granted a) e h = absurd (h (granted_when.0 (a, e)))
-      refused Refused e h = e
+      refused : (j : Option ℕ) → judged t words f target wanted ≡ j → (Grantable t words f target wanted → ⊥)
+          → judged t words f target wanted ≡ None
+      refused (Some a) e h = absurd (h (granted_when.0 (a, e)))
+      refused None e h = e
 
   -- A DENYING PAIR WINS FROM ANY PLACE: where one stands in a live list, the judgement refuses.
-  pub denied_refused : (a : ℕ) → DeniesAt t words f (targeted t target) wanted a → judged t words f target wanted ≡ Refused
+  pub denied_refused : (a : ℕ) → DeniesAt t words f (targeted t target) wanted a → judged t words f target wanted ≡ None
   denied_refused a d =
       let p = d.in_clist in
       refused_when.1 (λ x. true≢false (sym d.denying ∙ x.undenied p.slot p.place p.in_frame p.in_list))
 
   -- Where no pair grants, the judgement refuses.
-  pub ungranted_refused : EachPair t words f (targeted t target) (λ mode. grants mode wanted ≡ false) → judged t words f target wanted ≡ Refused
+  pub ungranted_refused : EachPair t words f (targeted t target) (λ mode. grants mode wanted ≡ false) → judged t words f target wanted ≡ None
   ungranted_refused h =
       refused_when.1 (λ x. let p = x.in_clist in true≢false (sym x.granting ∙ h p.slot p.place p.in_frame p.in_list))

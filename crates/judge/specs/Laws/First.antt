@@ -1,5 +1,5 @@
 -- The first pair that passes a test, by slot and then by place: what `frame_first` finds, told pair by pair.
-use Rattle.std.specs.Prelude.{ℕ, ◌*◌, ◌<◌, ◌≡◌, refl, Bool, true, List, ◌⊎◌}
+use Rattle.std.specs.Prelude.{ℕ, ◌*◌, ◌<◌, ◌≡◌, refl, Bool, true, List, ◌⊎◌, None, Ok}
 use Rattle.std.proofs.Math.Path.{ap, sym}
 use Rattle.std.proofs.Common.{◌∙◌, true≢false, arith}
 use Rattle.std.proofs.Math.Bool.{false}
@@ -12,8 +12,7 @@ use Rattle.state.specs.declared.Frame.{Frame}
 use Rattle.clists.specs.Clist.{list_at}
 use Rattle.judge.specs.Search.{pair_verdict, list_first, slot_first, frame_first}
 use Rattle.judge.specs.Pairs.{pairs_at, Before}
-use Rattle.judge.specs.declared.Verdict.{Verdict}
-use Rattle.judge.specs.declared.Verdict.TheVariants.{Passed}
+use Rattle.judge.specs.Search.{Verdict}
 
 -- what a pair says
 abbrev pub says : Table → List ℕ → Frame → Object → ℕ → ℕ → ℕ → Verdict
@@ -34,7 +33,7 @@ abbrev pub NonePasses : (Verdict → Bool) → Table → List ℕ → Frame → 
 NonePasses test t words f o wanted = (i j : ℕ) → i < 8 → j < pairs_at t words f i → test (says t words f o wanted i j) ≡ false
 
 -- a pair passed over must not pass the test
-module _ (test : Verdict → Bool) (unheard : test Passed ≡ false) (t : Table) (words : List ℕ) (f : Frame) (o : Object) (wanted : ℕ) where
+module _ (test : Verdict → Bool) (unheard : test (Ok None) ≡ false) (t : Table) (words : List ℕ) (f : Frame) (o : Object) (wanted : ℕ) where
   -- a pair of slot k that says v and passes, and no pair of the slot before it does
   abbrev SlotPasses : ℕ → Verdict → Type 0
   SlotPasses k v = FirstAt (λ i. test (says t words f o wanted k i)) (says t words f o wanted k) 0 (pairs_at t words f k) v
@@ -45,15 +44,15 @@ module _ (test : Verdict → Bool) (unheard : test Passed ≡ false) (t : Table)
 
   slot_cases : (k : ℕ) → SlotPasses k (slot_first test t words f o wanted k) ⊎ SlotFails k
   unfolding slot_first list_first
-  slot_cases k = first_cases _ (says t words f o wanted k) Passed 0 (pairs_at t words f k)
+  slot_cases k = first_cases _ (says t words f o wanted k) (Ok None) 0 (pairs_at t words f k)
 
   slot_at_lem : (k : ℕ) (v : Verdict) → SlotPasses k v → slot_first test t words f o wanted k ≡ v
   unfolding slot_first list_first
-  slot_at_lem k v r = first_at _ (says t words f o wanted k) Passed 0 _ v r
+  slot_at_lem k v r = first_at _ (says t words f o wanted k) (Ok None) 0 _ v r
 
-  slot_none : (k : ℕ) → SlotFails k → slot_first test t words f o wanted k ≡ Passed
+  slot_none : (k : ℕ) → SlotFails k → slot_first test t words f o wanted k ≡ Ok None
   unfolding slot_first list_first
-  slot_none k h = first_none _ (says t words f o wanted k) Passed 0 _ h
+  slot_none k h = first_none _ (says t words f o wanted k) (Ok None) 0 _ h
 
   -- where what is found in a Clist fails, each of its pairs does
   slot_fails : (k : ℕ) → test (slot_first test t words f o wanted k) ≡ false → SlotFails k
@@ -69,7 +68,7 @@ module _ (test : Verdict → Bool) (unheard : test Passed ≡ false) (t : Table)
   frame_cases =
       ⊎_elim (λ r. inl (found r (slot_passes r.place r.holds)))
       (λ n. inr (λ i j l m. slot_fails i (n i (omega arith) (omega arith)) j (omega arith) (omega arith)))
-      (first_cases (λ k. test (slot_first test t words f o wanted k)) (slot_first test t words f o wanted) Passed 0 8)
+      (first_cases (λ k. test (slot_first test t words f o wanted k)) (slot_first test t words f o wanted) (Ok None) 0 8)
     where
       found : (r : FirstAt (λ k. test (slot_first test t words f o wanted k)) (slot_first test t words f o wanted) 0 8 (frame_first test t words f o wanted))
           → SlotPasses r.place (slot_first test t words f o wanted r.place) → FirstPasses test t words f o wanted (frame_first test t words f o wanted)
@@ -92,7 +91,7 @@ module _ (test : Verdict → Bool) (unheard : test Passed ≡ false) (t : Table)
   pub frame_at : (v : Verdict) → FirstPasses test t words f o wanted v → frame_first test t words f o wanted ≡ v
   unfolding frame_first
   frame_at v d =
-      first_at _ (slot_first test t words f o wanted) Passed 0 8 v
+      first_at _ (slot_first test t words f o wanted) (Ok None) 0 8 v
       (record {
         place = d.slot;
         from = omega arith;
@@ -115,8 +114,8 @@ module _ (test : Verdict → Bool) (unheard : test Passed ≡ false) (t : Table)
           })
 
   -- where no pair passes, nothing is
-  pub frame_none : NonePasses test t words f o wanted → frame_first test t words f o wanted ≡ Passed
+  pub frame_none : NonePasses test t words f o wanted → frame_first test t words f o wanted ≡ Ok None
   unfolding frame_first
   frame_none h =
-      first_none _ (slot_first test t words f o wanted) Passed 0 8
+      first_none _ (slot_first test t words f o wanted) (Ok None) 0 8
       (λ i a z. ap test (slot_none i (λ j b l. h i j (omega arith) (omega arith))) ∙ unheard)

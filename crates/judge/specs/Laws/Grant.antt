@@ -1,5 +1,5 @@
 -- What a grant means, and that hints give no rights: document 01, "Rights and capabilities".
-use Rattle.std.specs.Prelude.{ℕ, suc, ◌+◌, ◌*◌, ◌/◌, ◌<◌, ◌≤◌, ◌≡◌, refl, true, false, List, eqb, length, get_or}
+use Rattle.std.specs.Prelude.{ℕ, suc, ◌+◌, ◌*◌, ◌/◌, ◌<◌, ◌≤◌, ◌≡◌, refl, true, false, List, eqb, length, get_or, Some}
 use Rattle.std.proofs.Common.{ap, ◌∙◌, ⊎_elim, arith}
 use Rattle.rights.specs.Modes.{grants}
 use Rattle.rights.specs.Bits.{bit}
@@ -24,7 +24,6 @@ use Rattle.clists.specs.Laws.Lists.{list_at_lem, list_length}
 use Rattle.judge.specs.Laws.Exactly.{granted_exactly}
 use Rattle.judge.specs.Laws.Local.{pairs_local}
 use Rattle.judge.specs.declared.Target.{Target}
-use Rattle.judge.specs.declared.Judgement.TheVariants.{Granted}
 
 -- The object stands, the words at `a` and `a + 1` are a capability that is true for it, and the mode of the password grants the wanted rights:
 -- it is positive and holds each of them.
@@ -81,7 +80,7 @@ pair_words t words f slot place a l e =
       in_run = v.in_run;
     }
 
-module _ (t : Table) (words : List ℕ) (f : Frame) (target : Target) (wanted a : ℕ) (h : judged t words f target wanted ≡ Granted a) where
+module _ (t : Table) (words : List ℕ) (f : Frame) (target : Target) (wanted a : ℕ) (h : judged t words f target wanted ≡ Some a) where
   -- WHAT A GRANT MEANS: the pair at the address answered is true for the object asked for, and grants the wanted rights.
   pub grant_means : TruePair words (targeted t target) wanted a
   grant_means =

@@ -1,5 +1,5 @@
 -- What a judgement depends on: the pairs of the Clists searched, their modes for the object asked for, and whether it stands.
-use Rattle.std.specs.Prelude.{ℕ, ◌<◌, ◌≡◌, Bool, true, false, cond, ◌||◌, List, eqb}
+use Rattle.std.specs.Prelude.{ℕ, ◌<◌, ◌≡◌, Bool, true, false, cond, ◌||◌, List, eqb, None, Ok}
 use Rattle.std.proofs.Math.Path.{ap}
 use Rattle.std.proofs.Common.{sym, ◌∙◌, true≢false, ⊎_elim, arith}
 use Rattle.bounded.specs.Bools.{same_or_not}
@@ -18,9 +18,7 @@ use Rattle.judge.specs.Laws.First.{says}
 use Rattle.judge.specs.Laws.Verdicts.{judged_by}
 use Rattle.judge.specs.Laws.Exactly.{refused_when}
 use Rattle.judge.specs.declared.Target.{Target}
-use Rattle.judge.specs.declared.Verdict.{Verdict}
-use Rattle.judge.specs.declared.Verdict.TheVariants.{Passed}
-use Rattle.judge.specs.declared.Judgement.TheVariants.{Refused}
+use Rattle.judge.specs.Search.{Verdict}
 
 -- The Clist at a slot has as many pairs in two tables and stores, and each has the same mode for the object asked for.
 pub record SamePairs (t t' : Table) (words words' : List ℕ) (f : Frame) (o o' : Object) (slot : ℕ) : Type 0 where
@@ -32,9 +30,9 @@ module _ (t t' : Table) (words words' : List ℕ) (f : Frame) where
       → slot_first test t words f o wanted k ≡ slot_first test t' words' f o' wanted k
   unfolding slot_first list_first pair_verdict
   slot_same test o o' wanted k m =
-      first_same _ (λ i. test (says t' words' f o' wanted k i)) (says t words f o wanted k) (says t' words' f o' wanted k) Passed 0 (pairs_at t words f k)
+      first_same _ (λ i. test (says t' words' f o' wanted k i)) (says t words f o wanted k) (says t' words' f o' wanted k) (Ok None) 0 (pairs_at t words f k)
       (λ i a l. ap test (each i (omega arith))) (λ i a l. each i (omega arith))
-      ∙ ap (λ n. first (λ i. test (says t' words' f o' wanted k i)) (says t' words' f o' wanted k) Passed 0 n) m.pairs
+      ∙ ap (λ n. first (λ i. test (says t' words' f o' wanted k i)) (says t' words' f o' wanted k) (Ok None) 0 n) m.pairs
     where
       each : (i : ℕ) → i < pairs_at t words f k → says t words f o wanted k i ≡ says t' words' f o' wanted k i
       each i l = ap (λ mode. verdict_of mode wanted (address_at f k i)) (m.modes i l)
@@ -43,7 +41,7 @@ module _ (t t' : Table) (words words' : List ℕ) (f : Frame) where
       → frame_first test t words f o wanted ≡ frame_first test t' words' f o' wanted
   unfolding frame_first
   first_found_same test o o' wanted m =
-      first_same _ _ (slot_first test t words f o wanted) (slot_first test t' words' f o' wanted) Passed 0 8
+      first_same _ _ (slot_first test t words f o wanted) (slot_first test t' words' f o' wanted) (Ok None) 0 8
       (λ k a l. ap test (slot_same test o o' wanted k (m k (omega arith)))) (λ k a l. slot_same test o o' wanted k (m k (omega arith)))
 
   frame_same : (o o' : Object) (wanted : ℕ) → ((k : ℕ) → k < 8 → SamePairs t t' words words' f o o' k)
@@ -76,7 +74,7 @@ module _ (t t' : Table) (words words' : List ℕ) (f : Frame) where
 
 module _ (t : Table) (words : List ℕ) (f : Frame) (target : Target) (wanted : ℕ) where
   -- Where each pair of each Clist has the mode 0 for the object asked for, there is no grant.
-  pub modeless_refused : EachPair t words f (targeted t target) (λ mode. mode ≡ 0) → judged t words f target wanted ≡ Refused
+  pub modeless_refused : EachPair t words f (targeted t target) (λ mode. mode ≡ 0) → judged t words f target wanted ≡ None
   modeless_refused h =
       (refused_when t words f target wanted).1
       (λ x. let g = x.in_clist in
@@ -86,18 +84,18 @@ module _ (t : Table) (words : List ℕ) (f : Frame) (target : Target) (wanted : 
   -- No true pair, no grant.
   pub untrue_refused : ((slot place : ℕ) → slot < 8 → place < pairs_at t words f slot
       → TrueFor (targeted t target) (first_word t words f slot place) (second_word t words f slot place) → ⊥)
-      → judged t words f target wanted ≡ Refused
+      → judged t words f target wanted ≡ None
   untrue_refused h =
       modeless_refused
       (λ i j l m. ⊎_elim (λ z. z) (λ n. absurd (h i j l m (pair_true (targeted t target) _ _ (omega arith)).0))
       (same_or_not (mode_at t words f (targeted t target) i j) 0))
 
   -- Rule 4: where no object is asked for, there is no grant.
-  pub free_refused : free (targeted t target) ≡ true → judged t words f target wanted ≡ Refused
+  pub free_refused : free (targeted t target) ≡ true → judged t words f target wanted ≡ None
   free_refused h = (refused_when t words f target wanted).1 (λ x. true≢false (sym h ∙ x.stands))
 
 -- Rule 3: where no right is wanted, there is no grant.
-pub none_wanted : (t : Table) (words : List ℕ) (f : Frame) (target : Target) → judged t words f target 0 ≡ Refused
+pub none_wanted : (t : Table) (words : List ℕ) (f : Frame) (target : Target) → judged t words f target 0 ≡ None
 none_wanted t words f target = (refused_when t words f target 0).1 (λ x. true≢false x.some_right)
 
 -- LOCKS DO NOT MATTER: frames with the same slots are judged alike.
@@ -106,6 +104,6 @@ pub slots_local : (t : Table) (words : List ℕ) (f g : Frame) (target : Target)
 unfolding frame_verdict frame_first slot_first list_at
 slots_local t words f g target wanted s n =
     judged_by t words f target wanted
-    ∙ (λ i. cond (free (targeted t target) || eqb wanted 0) Refused
+    ∙ (λ i. cond (free (targeted t target) || eqb wanted 0) None
     (judgement_of (frame_verdict t words (record { slots = s i; count = n i; locked = 0; whole = false }) (targeted t target) wanted)))
     ∙ sym (judged_by t words g target wanted)

@@ -1,82 +1,74 @@
-use mathlib.Core.Path.{refl, ap, ◌∙◌, sym}
-use mathlib.Core.Bool.{not}
-use borrow.Author.Tests.{eq-eqb, ne_eqb, lt-ltb}
+use Rattle.std.proofs.Common.{refl, sym, ap, not, ne_eqb, eq-eqb, lt-ltb}
 use Rattle.calls.specs.Rules.{rule, unlocked, late, changes}
-use Rattle.calls.proofs.Parts.{alters_length, alters_range, alters_lock}
 use Rattle.calls.specs.Laws.Based.{based_done}
+use Rattle.calls.specs.Laws.Exits.{exits, none_granted, some_granted}
+use Rattle.calls.proofs.Parts.{alters_length, alters_range, alters_lock}
 use Rattle.calls.proofs.Based.{based_late}
-use Rattle.calls.specs.Laws.Told.{holds, fails}
-use Rattle.register_call.proofs.RegisterRange.{register_range}
+use Rattle.register_call.proofs.Refused.{refused}
 use Rattle.register_call.proofs.obj_cre_pdx.Goals as goal
 
 pub returns-then-store-ne-STORE_WORDS : goal.returns-then-store-ne-STORE_WORDS
-unfolding rule unlocked late changes
-returns-then-store-ne-STORE_WORDS c u d below = alters_length _ u d _ _ _ c.if-store-ne-STORE_WORDS.true c.unaltered.ensures
+returns-then-store-ne-STORE_WORDS c u d below = alters_length _ u d _ _ _ c.if-store-ne-STORE_WORDS.true refl
 
 pub returns-then-not-register_in_range : goal.returns-then-not-register_in_range
-unfolding rule unlocked late changes
-returns-then-not-register_in_range c u d below = alters_range _ u d _ _ _ (record { long = c.if-store-ne-STORE_WORDS.false; known = below }) (fails c.register_in_range.ensures (ap not c.if-not-register_in_range.true)) c.unaltered-then-not-register_in_range.ensures
+returns-then-not-register_in_range c u d below =
+    alters_range _ u d _ _ _ (record { long = c.if-store-ne-STORE_WORDS.false; known = below }) (sym c.if-not-register_in_range.ensures.value) refl
 
 pub returns-then-f : goal.returns-then-f
-unfolding rule unlocked late changes
-returns-then-f c u d below = alters_lock _ u d _ _ _ (record { long = c.if-store-ne-STORE_WORDS.false; known = below }) (holds c.register_in_range.ensures (ap not c.if-not-register_in_range.false)) (ap not c.if-f.true) c.unaltered-then-f.ensures
+unfolding rule unlocked
+returns-then-f c u d below =
+    alters_lock _ u d _ _ _ (record { long = c.if-store-ne-STORE_WORDS.false; known = below }) (sym c.if-not-register_in_range.ensures.value)
+    (ap not c.if-f.true) refl
 
-pub returns-in_default : goal.returns-in_default
-unfolding rule unlocked late changes
-returns-in_default c u d below =
-    based_late _ u d _ _ _ (record { long = c.if-store-ne-STORE_WORDS.false; known = below }) refl (sym c.register_in_range.ensures ∙ c.if-not-register_in_range.false) (ap not c.if-f.false) c.judge.ensures c.in_default.is
-    (λ v s. rw s.found) c.unaltered-in_default.ensures
-
-pub capability-requires : goal.capability-requires
-unfolding rule unlocked late changes
-capability-requires c =
-    (register_range _ _ _ _ (sym c.register_in_range.ensures ∙ c.if-not-register_in_range.false)).page
+pub returns-in_err-ok_or : goal.returns-in_err-ok_or
+unfolding rule unlocked late
+returns-in_err-ok_or c u d below =
+    let n = none_granted _ c.ok_or.ensures.value c.in_err-ok_or.was in
+    based_late _ u d _ _ _ (record { long = c.if-store-ne-STORE_WORDS.false; known = below }) refl
+    (sym c.if-not-register_in_range.ensures.value) (ap not c.if-f.false) c.judge.ensures n.0 (λ v s. rw s.found)
+    (exits c.from_residual.ensures.1 n.1)
 
 pub returns-then-not-live : goal.returns-then-not-live
-unfolding rule unlocked late changes
+unfolding rule unlocked late
 returns-then-not-live c u d below =
-    based_late _ u d _ _ _ (record { long = c.if-store-ne-STORE_WORDS.false; known = below }) refl (sym c.register_in_range.ensures ∙ c.if-not-register_in_range.false) (ap not c.if-f.false) c.judge.ensures c.in-Granted.is
-    (λ v s. rw (s.found, s.live, ← c.capability.ensures, fails c.live.ensures (ap not c.if-not-live.true))) c.unaltered-then-not-live.ensures
+    based_late _ u d _ _ _ (record { long = c.if-store-ne-STORE_WORDS.false; known = below }) refl
+    (sym c.if-not-register_in_range.ensures.value) (ap not c.if-f.false) c.judge.ensures
+    (some_granted _ c.ok_or.ensures.value c.in_ok-ok_or.was)
+    (λ v s. rw (s.found, s.live, ← c.capability.ensures, ← c.if-not-live.ensures)) refl
 
 pub returns-then-not-entries_inside : goal.returns-then-not-entries_inside
-unfolding rule unlocked late changes
 returns-then-not-entries_inside c u d below =
-    let y = rw c.capability.ensures at (holds c.live.ensures (ap not c.if-not-live.false)) in
-    based_late _ u d _ _ _ (record { long = c.if-store-ne-STORE_WORDS.false; known = below }) refl (sym c.register_in_range.ensures ∙ c.if-not-register_in_range.false) (ap not c.if-f.false) c.judge.ensures c.in-Granted.is
-    (λ v s. rw (s.found, s.live, y, ← c.object_based-o.ensures, fails c.entries_inside.ensures (ap not c.if-not-entries_inside.true)))
-    c.unaltered-then-not-entries_inside.ensures
+    refused (record { long = c.if-store-ne-STORE_WORDS.false; known = below }) c.if-not-register_in_range.ensures.value c.if-f.false
+    c.judge.ensures (some_granted _ c.ok_or.ensures.value c.in_ok-ok_or.was) (rw c.capability.ensures at c.if-not-live.ensures)
+    c.object_based-o.ensures (rw (← c.if-not-entries_inside.ensures))
 
 pub returns-then-has_password : goal.returns-then-has_password
-unfolding rule unlocked late changes
 returns-then-has_password c u d below =
-    let y = rw c.capability.ensures at (holds c.live.ensures (ap not c.if-not-live.false)) in
-    let e = holds c.entries_inside.ensures (ap not c.if-not-entries_inside.false) in
-    based_late _ u d _ _ _ (record { long = c.if-store-ne-STORE_WORDS.false; known = below }) refl (sym c.register_in_range.ensures ∙ c.if-not-register_in_range.false) (ap not c.if-f.false) c.judge.ensures c.in-Granted.is
-    (λ v s. rw (s.found, s.live, y, ← c.object_based-o.ensures, e, sym c.has_password.ensures ∙ c.if-has_password.true))
-    c.unaltered-then-has_password.ensures
+    refused (record { long = c.if-store-ne-STORE_WORDS.false; known = below }) c.if-not-register_in_range.ensures.value c.if-f.false
+    c.judge.ensures (some_granted _ c.ok_or.ensures.value c.in_ok-ok_or.was) (rw c.capability.ensures at c.if-not-live.ensures)
+    c.object_based-o.ensures (rw (← c.if-not-entries_inside.ensures, ← c.if-has_password.ensures))
 
-pub returns-then-g-ne0 : goal.returns-then-g-ne0
-unfolding rule unlocked late changes
-returns-then-g-ne0 c u d below =
-    let y = rw c.capability.ensures at (holds c.live.ensures (ap not c.if-not-live.false)) in
-    let e = holds c.entries_inside.ensures (ap not c.if-not-entries_inside.false) in
-    let k = sym c.has_password.ensures ∙ c.if-has_password.false in
-    based_late _ u d _ _ _ (record { long = c.if-store-ne-STORE_WORDS.false; known = below }) refl (sym c.register_in_range.ensures ∙ c.if-not-register_in_range.false) (ap not c.if-f.false) c.judge.ensures c.in-Granted.is
-    (λ v s. rw (s.found, s.live, y, ← c.object_based-o.ensures, e, k, ne_eqb _ _ c.if-g-ne0.true))
-    c.unaltered-then-g-ne0.ensures
-
-pub registration-requires : goal.registration-requires
-unfolding rule unlocked late changes
-registration-requires c =
-    let r = register_range _ _ _ _ (sym c.register_in_range.ensures ∙ c.if-not-register_in_range.false) in
-    (r.page, r.count, r.entries)
+pub returns-then-o-ne0 : goal.returns-then-o-ne0
+returns-then-o-ne0 c u d below =
+    refused (record { long = c.if-store-ne-STORE_WORDS.false; known = below }) c.if-not-register_in_range.ensures.value c.if-f.false
+    c.judge.ensures (some_granted _ c.ok_or.ensures.value c.in_ok-ok_or.was) (rw c.capability.ensures at c.if-not-live.ensures)
+    c.object_based-o.ensures (rw (← c.if-not-entries_inside.ensures, ← c.if-has_password.ensures, ne_eqb _ _ c.if-o-ne0.true))
 
 pub returns : goal.returns
 unfolding rule unlocked late changes
 returns c u d below =
-    let y = rw c.capability.ensures at (holds c.live.ensures (ap not c.if-not-live.false)) in
-    let e = holds c.entries_inside.ensures (ap not c.if-not-entries_inside.false) in
-    let k = sym c.has_password.ensures ∙ c.if-has_password.false in
-    based_done _ u d _ _ _ (record { long = c.if-store-ne-STORE_WORDS.false; known = below }) refl (sym c.register_in_range.ensures ∙ c.if-not-register_in_range.false) (ap not c.if-f.false) c.judge.ensures c.in-Granted.is _ (lt-ltb _ _ (register_range _ _ _ _ (sym c.register_in_range.ensures ∙ c.if-not-register_in_range.false)).base)
-    (λ v s. rw (s.found, s.live, y, ← c.object_based-o.ensures, e, k, eq-eqb _ _ c.if-g-ne0.false))
-    (λ v s. rw (s.found, ← c.object_based-o.ensures, ← c.registration.ensures, ← c.with_registration.ensures)) c.becomes.ensures
+    based_done _ u d _ _ _ (record { long = c.if-store-ne-STORE_WORDS.false; known = below }) refl
+    (sym c.if-not-register_in_range.ensures.value) (ap not c.if-f.false) c.judge.ensures
+    (some_granted _ c.ok_or.ensures.value c.in_ok-ok_or.was) _
+    (lt-ltb _ _ (c.register_in_range.ensures.bounds c.if-not-register_in_range.false).0)
+    (λ v s. rw (
+      s.found,
+      s.live,
+      ← c.capability.ensures,
+      ← c.if-not-live.ensures,
+      ← c.object_based-o.ensures,
+      ← c.if-not-entries_inside.ensures,
+      ← c.if-has_password.ensures,
+      eq-eqb _ _ c.if-o-ne0.false,
+    ))
+    (λ v s. rw (s.found, ← c.object_based-o.ensures, ← c.registration.ensures, ← c.with_registration-registered.ensures)) c.becomes.ensures

@@ -1,24 +1,11 @@
-use native.Mathlib.Omega.{arith}
-use Rattle.bounded.specs.Every.{below_at}
+use Rattle.std.proofs.Common.{ℕ, ltb, cond, rules}
+use Rattle.calls.specs.Arguments.{entry_of}
 use Rattle.calls.specs.Changes.{registration}
+use Rattle.bounded.specs.Made.{from_fn_is}
 use Rattle.register_call.proofs.registration.Goals as goal
-
-pub kept_entry-requires : goal.kept_entry-requires
-unfolding registration
-kept_entry-requires c = below_at 4 _ c.requires.2 0 (omega arith)
-
-pub kept_entry-requires-2 : goal.kept_entry-requires-2
-unfolding registration
-kept_entry-requires-2 c = below_at 4 _ c.requires.2 1 (omega arith)
-
-pub kept_entry-requires-3 : goal.kept_entry-requires-3
-unfolding registration
-kept_entry-requires-3 c = below_at 4 _ c.requires.2 2 (omega arith)
-
-pub kept_entry-requires-4 : goal.kept_entry-requires-4
-unfolding registration
-kept_entry-requires-4 c = below_at 4 _ c.requires.2 3 (omega arith)
 
 pub returns : goal.returns
 unfolding registration
-returns c = cc
+returns c =
+    let kept = λ (k : ℕ). cond (ltb k c.args.e.count) (entry_of c.args.e k) 0 in
+    rw (c.capability.ensures, from_fn_is _ kept (λ i y q r. (search rules, search rules)) _ 4 0 c.from_fn.ensures.items)

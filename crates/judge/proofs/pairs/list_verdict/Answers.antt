@@ -1,12 +1,15 @@
 use Prim.Native.Nat.{ℕ, ◌≤◌, ◌<◌}
 use mathlib.Core.List.{List}
+use mathlib.Core.Path.{refl, ap, sym, ◌∙◌}
 use native.Mathlib.Omega.{arith}
+use Rattle.std.specs.Prelude.{Ok, length, ◌/◌}
+use Rattle.std.proofs.lemmas.Result.{err_from_is_err_and}
 use Rattle.bounded.specs.Search.{Skipped}
 use Rattle.state.specs.declared.Object.{Object}
-use Rattle.judge.specs.Search.{pair_verdict, list_first}
+use Rattle.judge.specs.Search.{denying, pair_verdict, list_first}
 use Rattle.judge.specs.Naming.{names, other_passed}
-use Rattle.judge.specs.Walk.{list_verdict, Walking, walk_start, walk_next, walk_stop, walk_over, walk_skip}
-use Rattle.judge.specs.declared.Verdict.{Verdict}
+use Rattle.judge.specs.Walk.{list_verdict, or_else, or_found, Walking, walk_next, walk_stop, walk_over, walk_skip}
+use Rattle.judge.specs.Search.{Verdict}
 use Rattle.judge.proofs.pairs.list_verdict.Goals as goal
 
 module _ (list : List ℕ) (at : ℕ) (o : Object) (wanted : ℕ) where
@@ -19,30 +22,26 @@ module _ (list : List ℕ) (at : ℕ) (o : Object) (wanted : ℕ) where
   others n i j h w s l =
       walk_skip j w s.upward l (λ k a b. let e = other_passed list at o wanted k h (s.fails k a b) in (e, e))
 
-pub loop-i-init : goal.loop-i-init
+pub returns-in_err-v : goal.returns-in_err-v
 unfolding list_verdict list_first
-loop-i-init c = (others c.args.list.now c.args.start c.args.o c.args.wanted.bits _ 0 _ c.requires.1 walk_start c.next_pair-i.ensures.0 c.next_pair-i.ensures.1, c.next_pair-i.ensures.2)
-
-pub pair_verdict-v-requires : goal.pair_verdict-v-requires
-unfolding list_verdict list_first
-pair_verdict-v-requires c = (omega arith, omega arith, c.loop-i.invariant.1 c.loop-i-test.true)
-
-pub returns-then-denies : goal.returns-then-denies
-unfolding list_verdict list_first
-returns-then-denies c = walk_stop c.loop-i.invariant.0 _ c.loop-i-test.true (cc) (cc)
-
-pub loop-i-smaller : goal.loop-i-smaller
-unfolding list_verdict list_first
-loop-i-smaller c = omega arith
+returns-in_err-v c =
+    let p = err_from_is_err_and c.from_residual.result c.from_residual.ensures.1 in
+    let s = c.in-Some.ensures.found in
+    let w = others c.args.list.now c.args.start c.args.o c.args.wanted.bits _ _ c.in-Some.i c.requires.1 c.loop-i.invariant.0 s.0 (omega (arith, s.1)) in
+    walk_stop w _ s.1 (ap denying (sym c.pair_verdict.ensures ∙ c.in_err-v.was)) (ap denying p.1)
 
 pub loop-i-preserved : goal.loop-i-preserved
 unfolding list_verdict list_first
-loop-i-preserved c = let w = walk_next c.loop-i.invariant.0 c.loop-i-test.true (cc) (cc) in (
-  rw (c.or_else-found.ensures, c.pair_verdict-v.ensures)
-      (others c.args.list.now c.args.start c.args.o c.args.wanted.bits _ _ _ c.requires.1 w c.next_pair-i-in-loop-i.ensures.0 c.next_pair-i-in-loop-i.ensures.1),
-  c.next_pair-i-in-loop-i.ensures.2,
-)
+loop-i-preserved c =
+    let v = sym c.pair_verdict.ensures ∙ c.in_ok-v.was in
+    let s = c.in-Some.ensures.found in
+    let w = others c.args.list.now c.args.start c.args.o c.args.wanted.bits _ _ c.in-Some.i c.requires.1 c.loop-i.invariant.0 s.0 (omega (arith, s.1)) in
+    let e = ap (or_else (Ok c.loop-i.found)) v ∙ or_found _ _ ∙ ap Ok (sym c.or-found.ensures) in
+    (rw (← e) (walk_next w s.1 (ap denying v) (ap denying v)), omega (arith, s.1))
 
 pub returns : goal.returns
 unfolding list_verdict list_first
-returns c = walk_over c.loop-i.invariant.0 c.loop-i-test.false
+returns c =
+    let pairs = length c.args.list.now / 2 in
+    let s = c.next_pair.ensures.none (rw c.in_default.is refl) in
+    walk_over (others c.args.list.now c.args.start c.args.o c.args.wanted.bits _ _ pairs c.requires.1 c.loop-i.invariant.0 s (omega arith)) (omega arith)

@@ -1,12 +1,10 @@
-use Prim.Native.Nat.{ℕ, ◌-◌, ◌<◌}
-use mathlib.Core.Path.{◌≡◌}
-use mathlib.Core.Bool.{true}
+use Prim.Native.Nat.{ℕ, ◌-◌, ◌≤◌}
+use Rattle.std.specs.Prelude.{Ok}
 use mathlib.Core.List.{List}
 use Rattle.state.specs.declared.Object.{Object}
 use Rattle.judge.specs.Search.{pair_verdict}
-use Rattle.judge.specs.Naming.{names}
 use Rattle.judge.specs.Walk.{Walking}
-use Rattle.judge.specs.declared.Verdict.{Verdict}
+use Rattle.judge.specs.Search.{Verdict}
 use Rattle.judge.proofs.pairs.list_verdict.Given as goal
 
 module _ (list : List ℕ) (at : ℕ) (o : Object) (wanted : ℕ) where
@@ -15,7 +13,7 @@ module _ (list : List ℕ) (at : ℕ) (o : Object) (wanted : ℕ) where
   AtPair n i found = Walking (pair_verdict list at o wanted) (pair_verdict list at o wanted) n i found
 
 abbrev pub invariant-loop-i : goal.invariant-loop-i
-invariant-loop-i l = AtPair l.list l.start l.o l.wanted.bits l.pairs l.i l.found × (l.i < l.pairs → names l.list l.o.base l.i ≡ true)
+invariant-loop-i l = AtPair l.list l.start l.o l.wanted.bits l.pairs l.from (Ok l.found) × (l.from ≤ l.pairs)
 
 abbrev pub decreases-loop-i : goal.decreases-loop-i
-decreases-loop-i l = l.pairs - l.i
+decreases-loop-i l = l.pairs - l.from

@@ -1,4 +1,0 @@
-use Rattle.register_call.proofs.entry_inside.Goals as goal
-
-pub returns : goal.returns
-returns c = rw c.covers.ensures
