@@ -1,9 +1,8 @@
 -- Document 02, T-05: along a run no object outside is on an account that a member may charge, so that the figure of such an account is that
 -- of the group's part.
-use Rattle.std.specs.Prelude.{ℕ, suc, ◌/◌, ◌<◌, ◌≡◌, refl, true, false, List, eqb, get_or}
+use Rattle.std.specs.Prelude.{ℕ, suc, ◌/◌, ◌<◌, ◌≡◌, refl, true, false, List, eqb, get_or, Option}
 use Rattle.std.proofs.Common.{sym, ◌∙◌, true≢false, arith, eqb-true}
 use Rattle.std.proofs.Math.Logic.{⊎_elim}
-use Rattle.std.proofs.Math.Option.{Option}
 use Rattle.bounded.specs.Bools.{same_or_not, cond_ind}
 use Rattle.bounded.specs.Fill.{tabulate, tabulate_at}
 use Rattle.bounded.specs.Sum.{total_none}

@@ -1,7 +1,6 @@
 -- What demand 3 comes to for one domain, for the empty group, and for all four domains.
-use Rattle.std.specs.Prelude.{ℕ, ◌/◌, ◌<◌, ◌≡◌, refl, true, false, List, [], ◌∷◌, ◌⊎◌, ltb, eqb}
+use Rattle.std.specs.Prelude.{ℕ, ◌/◌, ◌<◌, ◌≡◌, refl, true, false, List, [], ◌∷◌, ◌⊎◌, ltb, eqb, Option, Some, None}
 use Rattle.std.proofs.Common.{sym, ap, subst, ◌∙◌, true≢false, inl, inr, ⊎_elim, arith, ltb-false, eqb-true, lt-ltb}
-use Rattle.std.proofs.Math.Option.{Option, none, some}
 use Rattle.std.proofs.Math.ListN.{get_or-eq_default}
 use Rattle.std.proofs.lemmas.List.{get_or-replicate}
 use Rattle.std.proofs.lemmas.Bool.{eqb-false}
@@ -119,8 +118,8 @@ everyone_stays s h page password =
     rw (past, based_none page, free_password password))
 
 everyone_holds : (s : State) → sound s ≡ true → (o : Option Presented) → HeldInside everyone s.table o
-everyone_holds s h none = tt
-everyone_holds s h (some l) = everyone_stays s h l.page l.password
+everyone_holds s h None = tt
+everyone_holds s h (Some l) = everyone_stays s h l.page l.password
 
 -- a done call is one of a member's: a number above 3 is refused
 done_below : (w : World) (d : ℕ) (c : Call) → number_of (step w d c).outcome.answer ≡ 0 → ltb d 4 ≡ true

@@ -1,7 +1,6 @@
 -- What a member's call reads is inside: it sees in the group's part what it sees in the whole world.
-use Rattle.std.specs.Prelude.{ℕ, ◌+◌, ◌*◌, ◌/◌, ◌<◌, ◌≤◌, ◌≡◌, refl, true, false, List, ◌⊎◌}
+use Rattle.std.specs.Prelude.{ℕ, ◌+◌, ◌*◌, ◌/◌, ◌<◌, ◌≤◌, ◌≡◌, refl, true, false, List, ◌⊎◌, Option, Some, None}
 use Rattle.std.proofs.Common.{sym, ap, ◌∙◌, true≢false, inl, inr, ⊎_elim, arith, eq-eqb}
-use Rattle.std.proofs.Math.Option.{Option, none, some}
 use Rattle.std.proofs.lemmas.Bool.{not-true}
 use Rattle.bounded.specs.Bools.{flag, unless, same_or_not}
 use Rattle.state.specs.Places.{free_object, slot_at, domain_at}
@@ -24,8 +23,6 @@ use Rattle.clists.specs.Laws.Lists.{run_short, SameClist, list_same}
 use Rattle.judge.specs.Laws.Local.{same_local, untrue_refused, free_refused}
 use Rattle.judge.specs.declared.Target.{Target}
 use Rattle.judge.specs.declared.Target.TheVariants.{Address, Base}
-use Rattle.judge.specs.declared.Judgement.{Judgement}
-use Rattle.judge.specs.declared.Judgement.TheVariants.{Granted, Refused}
 use Rattle.calls.specs.View.{Want, nothing, rights, Charge, World, first_failing, page_of, found_by, search, passes, permitted, within_limit}
 use Rattle.calls.specs.Rules.{wanted, presented, charged, early, view}
 use Rattle.calls.specs.Runs.{Event}
@@ -119,7 +116,7 @@ module _ (G : Group) (w : World) (ok : sound w.state ≡ true) where
 
   -- an object outside is refused: no pair of the lists is true for it
   pub judged_out : (f : Frame) (target : Target) (r : ℕ) → ListsInside G w f → inside_page G (page_of target) ≡ false
-      → judged t w.words f target r ≡ Refused
+      → judged t w.words f target r ≡ None
   judged_out f target r lists o =
       ⊎_elim (λ z. free_refused t w.words f target r (eq-eqb _ 0 z))
       (λ n. untrue_refused t w.words f target r
@@ -129,10 +126,10 @@ module _ (G : Group) (w : World) (ok : sound w.state ≡ true) where
       (same_or_not (targeted t target).pages 0)
 
   -- what is found inside is the same in the part
-  found_in : (target : Target) → inside_page G (page_of target) ≡ true → (j : Judgement) → found_by (part G w) target j ≡ found_by w target j
-  found_in (Address a) i (Granted pair) = rw (covering_in G t (a / 64) i, estate_in G t (a / 64 / 32) i, word_in G w.words a i)
-  found_in (Base b) i (Granted pair) = rw (based_in G t b i, estate_in G t (b / 32) i)
-  found_in target i Refused = refl
+  found_in : (target : Target) → inside_page G (page_of target) ≡ true → (j : Option ℕ) → found_by (part G w) target j ≡ found_by w target j
+  found_in (Address a) i (Some pair) = rw (covering_in G t (a / 64) i, estate_in G t (a / 64 / 32) i, word_in G w.words a i)
+  found_in (Base b) i (Some pair) = rw (based_in G t b i, estate_in G t (b / 32) i)
+  found_in target i None = refl
 
   -- a member's search gives the same in the part
   search_in : (f : Frame) (want : Want) → FrameInside G t f → (wants want ≡ true → ListsInside G w f)
@@ -147,8 +144,8 @@ module _ (G : Group) (w : World) (ok : sound w.state ≡ true) where
 
   -- what a call presents is live in the part exactly where it is live
   presented_in : (l : Option Presented) → HeldInside G t l → passes t' l ≡ passes t l
-  presented_in none k = refl
-  presented_in (some l) k = live_in G t (record { page = l.page; password = l.password }) k
+  presented_in None k = refl
+  presented_in (Some l) k = live_in G t (record { page = l.page; password = l.password }) k
 
   -- the accounts, whole and in the part
   abbrev x : Accounts
@@ -159,15 +156,15 @@ module _ (G : Group) (w : World) (ok : sound w.state ≡ true) where
 
   -- a member may charge the same accounts in the part
   permits_in : (d : ℕ) → member G d ≡ true → (c : Option Charge) → permitted x' d c ≡ permitted x d c
-  permits_in d m none = refl
-  permits_in d m (some c) = charge_in G x d c.account m
+  permits_in d m None = refl
+  permits_in d m (Some c) = charge_in G x d c.account m
 
   -- and finds the same figure and limit, where no object outside is on such an account
   fits_in : ChargedApart G w.state → (d : ℕ) → member G d ≡ true → (c : Option Charge) → within_limit t' x' d c ≡ within_limit t x d c
-  fits_in i d m none = refl
-  fits_in i d m (some c) = go (flag (may_charge x d c.account))
+  fits_in i d m None = refl
+  fits_in i d m (Some c) = go (flag (may_charge x d c.account))
     where
-      go : (may_charge x d c.account ≡ true) ⊎ (may_charge x d c.account ≡ false) → within_limit t' x' d (some c) ≡ within_limit t x d (some c)
+      go : (may_charge x d c.account ≡ true) ⊎ (may_charge x d c.account ≡ false) → within_limit t' x' d (Some c) ≡ within_limit t x d (Some c)
       go (inl p) =
           let inside = member_inside G x d c.account m p in
           rw (charge_in G x d c.account m, pages_in G t c.account (outside_none G w.state i c.account inside), limit_in G x c.account inside)
@@ -175,7 +172,7 @@ module _ (G : Group) (w : World) (ok : sound w.state ≡ true) where
 
   -- A MEMBER'S CALL THAT GETS AS FAR AS JUDGING SEES THE SAME IN THE PART as in the whole world, under the premises.
   pub view_in : (e : Event) → member G e.domain ≡ true → FrameInside G w.state.table (domain_at w.state e.domain).active
-      → MemberCall G w e → ChargedApart G w.state → first_failing (early e.domain e.call (domain_at w.state e.domain).active) ≡ none
+      → MemberCall G w e → ChargedApart G w.state → first_failing (early e.domain e.call (domain_at w.state e.domain).active) ≡ None
       → view judged (part G w) e.domain e.call ≡ view judged w e.domain e.call
   unfolding view
   view_in e m k call i p =

@@ -1,7 +1,6 @@
 -- A step of the monitor, seen from the group: a member's does to the part what it does there alone, an outsider's leaves the part as it is.
-use Rattle.std.specs.Prelude.{ℕ, ◌+◌, ◌*◌, ◌/◌, ◌≤◌, ◌≡◌, refl, Bool, true, false, cond, ◌&&◌, List, [], ◌∷◌, ◌++◌, leb, eqb, length}
+use Rattle.std.specs.Prelude.{ℕ, ◌+◌, ◌*◌, ◌/◌, ◌≤◌, ◌≡◌, refl, Bool, true, false, cond, ◌&&◌, List, [], ◌∷◌, ◌++◌, leb, eqb, length, Option, Some, None}
 use Rattle.std.proofs.Common.{sym, ap, ◌∙◌, ⊎_elim, arith, leb-true}
-use Rattle.std.proofs.Math.Option.{Option, none, some}
 use Rattle.bounded.specs.Bools.{and_left, and_right}
 use Rattle.state.specs.Places.{domain_at}
 use Rattle.state.specs.Extent.{lies_in}
@@ -63,23 +62,23 @@ step_good w d c g = sound_unchecked w d c g.well
 module _ (G : Group) (w : World) (d : ℕ) (c : Call) (v : View) where
   -- by the same checks and the same view a call answers alike in the world and in the part
   pub concluded_answer : (o : Option Refusal) → answer_of (concluded o w d c v) ≡ answer_of (concluded o (part G w) d c v)
-  concluded_answer none = refl
-  concluded_answer (some r) = refl
+  concluded_answer None = refl
+  concluded_answer (Some r) = refl
 
   -- and leaves the same part
   pub concluded_after : (o : Option Refusal) → part G (world_of (concluded o w d c v)) ≡ part G (world_of (concluded o (part G w) d c v))
-  concluded_after none = sym (all_in G (changes d c v) (part G w) w (part_part G w))
-  concluded_after (some r) = sym (part_part G w)
+  concluded_after None = sym (all_in G (changes d c v) (part G w) w (part_part G w))
+  concluded_after (Some r) = sym (part_part G w)
 
 -- where a check fails, those behind it do not matter
-fails_before : (cs ds : List Check) (why : Refusal) → first_failing cs ≡ some why → first_failing (cs ++ ds) ≡ some why
+fails_before : (cs ds : List Check) (why : Refusal) → first_failing cs ≡ Some why → first_failing (cs ++ ds) ≡ Some why
 fails_before [] ds why h = let z : ◌≡◌ {A = ℕ} 0 1 = cc in absurd (omega arith)
 fails_before (check r true ∷ cs) ds why h = fails_before cs ds why h
 fails_before (check r false ∷ cs) ds why h = h
 
 -- nor does what the call sees
 refused_alike : (p : World) (d : ℕ) (c : Call) (u v : View) (why : Refusal) (b : Bool)
-    → concluded (cond b (some why) (some StoreLength)) p d c u ≡ concluded (cond b (some why) (some StoreLength)) p d c v
+    → concluded (cond b (Some why) (Some StoreLength)) p d c u ≡ concluded (cond b (Some why) (Some StoreLength)) p d c v
 refused_alike p d c u v why true = refl
 refused_alike p d c u v why false = refl
 
@@ -98,12 +97,12 @@ module _ (G : Group) (w : World) (e : Event) (g : Good G w) (a : Asked G w e) (m
   first = first_failing (store_check w ∷ checks d c v)
 
   -- where it gets as far as judging, it sees the same
-  reached_alike : first_failing (early d c (domain_at w.state d).active) ≡ none → unchecked (part G w) d c ≡ concluded first (part G w) d c v
+  reached_alike : first_failing (early d c (domain_at w.state d).active) ≡ None → unchecked (part G w) d c ≡ concluded first (part G w) d c v
   unfolding unchecked_by
   reached_alike p = rw (view_in G w g.well e m (a.state.members d m).slots (a.call.of_member m) g.charged p, words_length G w.words)
 
   -- where a check before that fails, it fails in both
-  stopped_alike : (r : Refusal) → first_failing (early d c (domain_at w.state d).active) ≡ some r → unchecked (part G w) d c ≡ concluded first (part G w) d c v
+  stopped_alike : (r : Refusal) → first_failing (early d c (domain_at w.state d).active) ≡ Some r → unchecked (part G w) d c ≡ concluded first (part G w) d c v
   unfolding unchecked_by checks view
   stopped_alike r p =
       rw (
@@ -117,8 +116,8 @@ module _ (G : Group) (w : World) (e : Event) (g : Good G w) (a : Asked G w e) (m
   there = unchecked_blanked (part G w) d c ∙ go (first_failing (early d c (domain_at w.state d).active)) refl
     where
       go : (x : Option Refusal) → first_failing (early d c (domain_at w.state d).active) ≡ x → unchecked (part G w) d c ≡ concluded first (part G w) d c v
-      go none p = reached_alike p
-      go (some r) p = stopped_alike r p
+      go None p = reached_alike p
+      go (Some r) p = stopped_alike r p
 
   -- A MEMBER'S CALL DOES TO THE PART WHAT IT DOES THERE ALONE, known by its arguments.
   pub step_in : SameAlone monitor (lone G) (part G) blanked_event w e

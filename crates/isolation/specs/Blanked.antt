@@ -1,7 +1,6 @@
 -- What stands past the entry count of RG is no argument: blanking it changes nothing that a call does.
-use Rattle.std.specs.Prelude.{ℕ, ◌/◌, ◌≡◌, Bool, true, false, cond, ◌||◌, ◌∷◌, leb}
+use Rattle.std.specs.Prelude.{ℕ, ◌/◌, ◌≡◌, Bool, true, false, cond, ◌||◌, ◌∷◌, leb, Option, Some, None}
 use Rattle.std.proofs.Math.Path.{refl}
-use Rattle.std.proofs.Math.Option.{Option, none, some}
 use Rattle.std.proofs.Math.Dec.{ltb}
 use Rattle.std.proofs.Common.{leb-false, lt-ltb}
 use Rattle.bounded.specs.Every.{below}
@@ -65,8 +64,8 @@ module _ (b k : ℕ) (l : Presented) (es : Entries) (d : ℕ) where
 
   concluded_same : (o : Option Refusal) (w : World) (v : View) → concluded o w d stripped v ≡ concluded o w d given v
   unfolding changes
-  concluded_same none w v = rw (registration_counted k l es)
-  concluded_same (some r) w v = refl
+  concluded_same None w v = rw (registration_counted k l es)
+  concluded_same (Some r) w v = refl
 
   register_same : (w : World) → unchecked w d stripped ≡ unchecked w d given
   unfolding unchecked_by

@@ -1,5 +1,5 @@
 -- What holds of the objects of some domains' estates, and of these domains: what a search finds there, and what a call keeps.
-use Rattle.std.specs.Prelude.{ℕ, suc, ◌+◌, ◌-◌, ◌/◌, ◌≡◌, refl, Bool, true, List, [], ◌∷◌, ◌⊎◌, leb, get_or, set, replicate}
+use Rattle.std.specs.Prelude.{ℕ, suc, ◌+◌, ◌-◌, ◌/◌, ◌≡◌, refl, Bool, true, List, [], ◌∷◌, ◌⊎◌, leb, get_or, set, replicate, Option, Some, None}
 use Rattle.std.proofs.Common.{ap, subst, inl, inr, ⊎_elim}
 use Rattle.bounded.specs.Bools.{cond_ind}
 use Rattle.bounded.specs.Fill.{tabulate}
@@ -17,8 +17,6 @@ use Rattle.state.specs.declared.Domain.{Domain}
 use Rattle.state.specs.declared.State.{State}
 use Rattle.judge.specs.Judged.{judged}
 use Rattle.judge.specs.declared.Target.TheVariants.{Base}
-use Rattle.judge.specs.declared.Judgement.{Judgement}
-use Rattle.judge.specs.declared.Judgement.TheVariants.{Granted}
 use Rattle.calls.specs.Answers.{number_of}
 use Rattle.calls.specs.View.{rights, World, search, found_by, object_of, estate_found}
 use Rattle.calls.specs.Changes.{Change, word, zeros, estate, domain, apply_one, apply_all}
@@ -89,9 +87,9 @@ module _ (P : Object → Type 0) (free : P free_object) (none : P no_object) whe
     found_each : Each P (estate_found (search judged w f (rights (Base b) r))) × P (object_of (search judged w f (rights (Base b) r)))
     found_each = go (judged w.state.table w.words f (Base b) r)
       where
-        go : (j : Judgement) → Each P (estate_found (found_by w (Base b) j)) × P (object_of (found_by w (Base b) j))
-        go (Granted pair) = (h, based_each w.state.table b h)
-        go Judgement.Refused = (λ k. none, free)
+        go : (j : Option ℕ) → Each P (estate_found (found_by w (Base b) j)) × P (object_of (found_by w (Base b) j))
+        go (Some pair) = (h, based_each w.state.table b h)
+        go None = (λ k. none, free)
 
     -- another object in that one's place, and that one gone
     pub becomes_each : (place : ℕ) (o : Object) → (P (object_of (search judged w f (rights (Base b) r))) → P o)

@@ -1,6 +1,5 @@
 -- The premises of demand 3: document 01, "Two runs and a group", and of the accounts document 02, T-05.
-use Rattle.std.specs.Prelude.{ℕ, ◌/◌, ◌<◌, ◌≡◌, Bool, true, false, not, ◌||◌, List, [], ◌∷◌}
-use Rattle.std.proofs.Math.Option.{Option, none, some}
+use Rattle.std.specs.Prelude.{ℕ, ◌/◌, ◌<◌, ◌≡◌, Bool, true, false, not, ◌||◌, List, [], ◌∷◌, Option, Some, None}
 use Rattle.state.specs.Places.{slot_at, saved_at, domain_at}
 use Rattle.state.specs.Lookup.{object_based, has_password}
 use Rattle.state.specs.Pages.{in_set}
@@ -25,8 +24,8 @@ stays_inside G t page password = inside_page G page || not (has_password (object
 
 -- so of the capability that a call holds, IN its own and RG its list's, in the table that the call finds; no other call holds one
 abbrev pub HeldInside : Group → Table → Option Presented → Type 0
-HeldInside G t none = Unit {0}
-HeldInside G t (some l) = stays_inside G t l.page l.password ≡ true
+HeldInside G t None = Unit {0}
+HeldInside G t (Some l) = stays_inside G t l.page l.password ≡ true
 
 -- so of each slot in use of a frame, and of a domain's active and saved frames
 abbrev pub FrameInside : Group → Table → Frame → Type 0
@@ -49,7 +48,7 @@ wants nothing = false
 wants (rights target r) = true
 
 pub record Judges (w : World) (e : Event) : Type 0 where
-  pub reached : first_failing (early e.domain e.call (domain_at w.state e.domain).active) ≡ none
+  pub reached : first_failing (early e.domain e.call (domain_at w.state e.domain).active) ≡ None
   pub asks : wants (wanted e.call) ≡ true
 
 -- what a done call touches is inside: WR by its address, DL, AP, DP and RG by their base

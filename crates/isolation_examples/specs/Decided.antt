@@ -1,7 +1,6 @@
 -- A premise's test that is true gives the premise, and what a run shows is what the claim speaks of.
-use Rattle.std.specs.Prelude.{ℕ, ◌≡◌, refl, Bool, true, false, not, ◌&&◌, List, [], ◌∷◌, eqb}
+use Rattle.std.specs.Prelude.{ℕ, ◌≡◌, refl, Bool, true, false, not, ◌&&◌, List, [], ◌∷◌, eqb, Option, Some, None}
 use Rattle.std.proofs.Common.{sym, ap, ◌∙◌, true≢false, eqb-true}
-use Rattle.std.proofs.Math.Option.{Option, none, some}
 use Rattle.std.proofs.lemmas.Bool.{not-true}
 use Rattle.bounded.specs.Bools.{and_left, and_right, unless}
 use Rattle.bounded.specs.Every.{below_at}
@@ -52,8 +51,8 @@ state_holds G w h =
 -- what a call holds, and the lists that it searches
 held_holds : (G : Group) (t : Table) (l : Option Presented) → held_test G t l ≡ true → HeldInside G t l
 unfolding held_test
-held_holds G t none h = tt
-held_holds G t (some l) h = h
+held_holds G t None h = tt
+held_holds G t (Some l) h = h
 
 lists_holds : (G : Group) (w : World) (f : Frame) → lists_test G w f ≡ true → ListsInside G w f
 unfolding lists_test pairs_test

@@ -1,6 +1,5 @@
 -- The premises as tests that compute: of a state, of a call, of a run and of two runs.
-use Rattle.std.specs.Prelude.{ℕ, ◌+◌, ◌*◌, ◌/◌, Bool, true, false, not, cond, ◌&&◌, ◌||◌, List, [], ◌∷◌, eqb, length, get_or}
-use Rattle.std.proofs.Math.Option.{Option, none, some}
+use Rattle.std.specs.Prelude.{ℕ, ◌+◌, ◌*◌, ◌/◌, Bool, true, false, not, cond, ◌&&◌, ◌||◌, List, [], ◌∷◌, eqb, length, get_or, Option, Some, None}
 use Rattle.bounded.specs.Every.{below}
 use Rattle.state.specs.Places.{slot_at, saved_at, domain_at}
 use Rattle.state.specs.Pages.{in_set}
@@ -35,8 +34,8 @@ state_test G w = below 4 (λ d. not (member G d) || slots_test G w d)
 
 -- so of the capability that a call holds
 unfoldable pub held_test : Group → Table → Option Presented → Bool
-held_test G t none = true
-held_test G t (some l) = stays_inside G t l.page l.password
+held_test G t None = true
+held_test G t (Some l) = stays_inside G t l.page l.password
 
 -- so of each pair of a list of words
 unfoldable pub pairs_test : Group → Table → List ℕ → Bool
@@ -48,8 +47,8 @@ lists_test G w f = below 8 (λ slot. pairs_test G w.state.table (list_at w.state
 
 -- a call is judged: no check before that fails, and it wants rights
 abbrev pub passed_all : Option Refusal → Bool
-passed_all none = true
-passed_all (some r) = false
+passed_all None = true
+passed_all (Some r) = false
 
 unfoldable pub judges_test : World → Event → Bool
 judges_test w e = passed_all (first_failing (early e.domain e.call (domain_at w.state e.domain).active)) && wants (wanted e.call)

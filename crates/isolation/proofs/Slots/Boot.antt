@@ -1,6 +1,5 @@
 -- The boot, done or refused, leaves slots and registered lists that name pages inside.
-use Rattle.std.specs.Prelude.{ℕ, suc, ◌*◌, ◌/◌, ◌≡◌, true, List}
-use Rattle.std.proofs.Math.Option.{Option, none, some}
+use Rattle.std.specs.Prelude.{ℕ, suc, ◌*◌, ◌/◌, ◌≡◌, true, List, Option, Some, None}
 use native.Mathlib.Omega.{arith}
 use Rattle.std.proofs.lemmas.List.{get_or-replicate}
 use Rattle.bounded.specs.Fill.{tabulate_at}
@@ -38,12 +37,12 @@ module _ (G : Group) where
   boot_in words d plan = go (first_failing (boot_checks words d plan))
     where
       go : (o : Option Refusal) → StateIn G (booted plan words o).outcome.state
-      go none =
+      go None =
           record {
             domains = λ d m. rw (tabulate_at 4 (home_domain plan) d no_domain (member_below G d m)) (home_in plan d m);
             estates = λ d m. rw (tabulate_at 4 (home_estate plan) d no_estate (member_below G d m)) (house_in plan d);
           }
-      go (some r) =
+      go (Some r) =
           record {
             domains = λ d m. rw (get_or-replicate 4 d empty_domain no_domain (member_below G d m))
                 (record { active = λ k l. absurd (omega arith); saved = λ k l. absurd (omega arith) });

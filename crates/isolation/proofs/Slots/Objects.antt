@@ -1,5 +1,5 @@
 -- Objects whose registered lists name pages inside: what they become, and what a member's CA finds.
-use Rattle.std.specs.Prelude.{ℕ, ◌/◌, ◌≡◌, refl, true, eqb}
+use Rattle.std.specs.Prelude.{ℕ, ◌/◌, ◌≡◌, refl, true, eqb, Option, Some, None}
 use Rattle.std.proofs.Common.{sym, ◌∙◌, true≢false, ⊎_elim, arith}
 use Rattle.bounded.specs.Bools.{flag, cond_ind}
 use Rattle.rights.specs.Modes.{pdx}
@@ -10,8 +10,6 @@ use Rattle.state.specs.declared.Object.{Object}
 use Rattle.state.specs.declared.Frame.{Frame}
 use Rattle.judge.specs.Judged.{judged}
 use Rattle.judge.specs.declared.Target.TheVariants.{Address}
-use Rattle.judge.specs.declared.Judgement.{Judgement}
-use Rattle.judge.specs.declared.Judgement.TheVariants.{Granted}
 use Rattle.calls.specs.View.{rights, World, search, found_by, is_some, object_of}
 use Rattle.calls.specs.Laws.Searched.{called_registered}
 use Rattle.isolation.specs.Group.{Group, inside_page}
@@ -43,8 +41,8 @@ module _ (G : Group) where
       inside : is_some (search judged w f (rights (Address a) pdx)) ≡ true → inside_page G (a / 64) ≡ true
       inside s = ⊎_elim (λ t. t) (λ o. absurd (true≢false (sym s ∙ rw (judged_out G w h f (Address a) pdx lists o)))) (flag (inside_page G (a / 64)))
 
-      go : (j : Judgement) → judged w.state.table w.words f (Address a) pdx ≡ j → is_some (found_by w (Address a) j) ≡ true
+      go : (j : Option ℕ) → judged w.state.table w.words f (Address a) pdx ≡ j → is_some (found_by w (Address a) j) ≡ true
           → Page G (object_of (found_by w (Address a) j)).registration.list
-      go (Granted pair) e g =
+      go (Some pair) e g =
           covering_each (ObjectIn G) free_in none_in w.state.table (a / 64) (i.estates (a / 64 / 32) (inside s)) (called_registered w f a pair h e)
-      go Judgement.Refused e g = absurd (true≢false (sym g))
+      go None e g = absurd (true≢false (sym g))
