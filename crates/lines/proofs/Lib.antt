@@ -1,1 +1,2 @@
 mod Told
+pub mod Seeking

@@ -1,13 +1,13 @@
--- A field that a let-else passes over.
+-- A field whose number is none.
 use Prim.Native.Nat.{ℕ}
 use mathlib.Core.Path.{◌≡◌, refl}
 use mathlib.Core.Bool.{false}
-use Rattle.lines.specs.declared.Field.{Field}
-use Rattle.lines.specs.declared.Field.TheVariants.{Empty, Number, Bad}
+use mathlib.Core.List.{List, [], ◌∷◌}
+use Rattle.std.specs.Prelude.{None}
+use Rattle.lines.specs.Number.{numbered}
 use Rattle.lines.specs.Taking.{is_number}
 
 -- it is no number
-pub no_number : (f : Field) → ((v : ℕ) → f ≡ Number v → ⊥) → is_number f ≡ false
-no_number Empty h = refl
-no_number (Number v) h = absurd (h v refl)
-no_number Bad h = refl
+pub no_number : (s : List ℕ) → is_number (numbered s None) ≡ false
+no_number [] = refl
+no_number (b ∷ s) = refl

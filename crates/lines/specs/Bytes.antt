@@ -4,9 +4,7 @@ use Rattle.std.proofs.Common.{sym, ap, arith, lt-ltb, le-leb, leb-true, ne_eqb}
 use mathlib.Core.List.{List, [], ◌∷◌, foldl}
 use Rattle.std.proofs.lemmas.Bool.{lt-leb}
 use Rattle.bounded.specs.Bools.{and_left, and_right}
-use Rattle.lines.specs.declared.Field.{Field}
-use Rattle.lines.specs.declared.Field.TheVariants.{Empty, Number, Bad}
-use Rattle.lines.specs.Number.{is_digit, with_digit, after, field_of}
+use Rattle.lines.specs.Number.{Field, Empty, Number, Bad, is_digit, with_digit, after, field_of}
 
 pub digit_low : (b : ℕ) → is_digit b ≡ true → 48 ≤ b
 digit_low b h = leb-true 48 b (and_left (leb 48 b) (leb b 57) h)

@@ -1,51 +1,25 @@
 -- The line by the places of its commas, as the code reads it.
-use Rattle.std.specs.Prelude.{ℕ, ◌+◌, ◌-◌, ◌<◌, ◌≤◌, ◌≡◌, refl, false, List, length, take, drop}
+use Rattle.std.specs.Prelude.{ℕ, ◌+◌, ◌-◌, ◌<◌, ◌≤◌, ◌≡◌, refl, false, List, length, take, drop, None}
 use Rattle.std.proofs.Math.Option.{Option, none, some}
 use native.Mathlib.Omega.{arith}
 use Rattle.std.proofs.Common.{drop_of_length-le, lt-ltb, le-ltb}
 use Rattle.bounded.specs.Folds.{rest_all}
-use Rattle.lines.specs.declared.Field.{Field}
-use Rattle.lines.specs.declared.Field.TheVariants.{Empty, Number, Bad}
-use Rattle.lines.specs.declared.Letters.{Letters}
-use Rattle.lines.specs.declared.Letters.TheVariants.{Unknown, Known}
-use Rattle.lines.specs.declared.Named.TheVariants.{Call}
-use Rattle.lines.specs.declared.Mnemonic.{Mnemonic}
-use Rattle.lines.specs.declared.Eight.{Eight}
-use Rattle.lines.specs.declared.Arguments.TheVariants as arguments
-use Rattle.lines.specs.Number.{field_of}
+use Rattle.lines.specs.Number.{Field, Empty, Number, Bad, field_of}
 use Rattle.lines.specs.Cut.{comma_of, behind, cut, behind_at}
 use Rattle.lines.specs.Arguments.{numbers_of}
 use Rattle.lines.specs.Taking.{is_number}
-use Rattle.lines.specs.Keeping.{given, arguments_of}
-use Rattle.lines.specs.Letters.{letters_of}
-use Rattle.lines.specs.Reading.{answered, unreadable}
-use Rattle.lines.specs.Grammar.{line_bytes, call_of, with_arguments, line_with, line_of}
+use Rattle.lines.specs.Letters.{Letters, letters_of}
+use Rattle.lines.specs.Reading.{unreadable}
+use Rattle.lines.specs.Grammar.{line_bytes, with_arguments, line_with, line_of}
 
 domain_bad : (f : Field) (fs : List (List ℕ)) → is_number f ≡ false → unreadable ≡ line_with f fs
 domain_bad Empty fs h = refl
 domain_bad (Number v) fs h = cc
 domain_bad Bad fs h = refl
 
-letters_bad : (d : ℕ) (o : Option (List ℕ)) → unreadable ≡ with_arguments d Unknown o
+letters_bad : (d : ℕ) (o : Option (List ℕ)) → unreadable ≡ with_arguments d None o
 letters_bad d none = refl
 letters_bad d (some vs) = refl
-
--- a call, by its arguments
-pub given_bad : (d : ℕ) (m : Mnemonic) (t : List ℕ) {n : ℕ} → arguments.Answered n ≡ arguments_of t → answered n ≡ with_arguments d (Known (Call m)) (numbers_of (behind t))
-unfolding arguments_of
-given_bad d m t {n} h = go (numbers_of (behind t)) h
-  where
-    go : (o : Option (List ℕ)) → arguments.Answered n ≡ given o → answered n ≡ with_arguments d (Known (Call m)) o
-    go none k = cc
-    go (some vs) k = cc
-
-pub given_numbers : (d : ℕ) (m : Mnemonic) (t : List ℕ) {n : ℕ} {x : Eight} → arguments.Numbers n x ≡ arguments_of t → call_of d m n x ≡ with_arguments d (Known (Call m)) (numbers_of (behind t))
-unfolding arguments_of
-given_numbers d m t {n} {x} h = go (numbers_of (behind t)) h
-  where
-    go : (o : Option (List ℕ)) → arguments.Numbers n x ≡ given o → call_of d m n x ≡ with_arguments d (Known (Call m)) o
-    go none k = cc
-    go (some vs) k = cc
 
 pub too_long : (s : List ℕ) → line_bytes < length s → unreadable ≡ line_of s
 unfolding line_of
@@ -72,8 +46,9 @@ module _ (s : List ℕ) (fits : length s ≤ line_bytes) {d : ℕ} (first : d �
           rw (line_is, ← domain, behind_at s d l, w, end)
 
       -- the letters, and the text behind them
-      pub by_letters : {l : Letters} → l ≡ letters_of (take (e - (d + 1)) (drop (d + 1) s)) → with_arguments v l (numbers_of (behind (take (length s - e) (drop e s)))) ≡ line_of s
+      pub by_letters : {l : Letters} → l ≡ letters_of (take (e - (d + 1)) (drop (d + 1) s))
+          → with_arguments v l (numbers_of (behind (take (length s - e) (drop e s)))) ≡ line_of s
       by_letters known = rw (line_at, ← known, rest_all)
 
-      pub unknown_letters : Unknown ≡ letters_of (take (e - (d + 1)) (drop (d + 1) s)) → unreadable ≡ line_of s
+      pub unknown_letters : None ≡ letters_of (take (e - (d + 1)) (drop (d + 1) s)) → unreadable ≡ line_of s
       unknown_letters h = rw (line_at, ← h) (letters_bad v (numbers_of (behind (drop e s))))

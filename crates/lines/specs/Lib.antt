@@ -9,8 +9,7 @@ pub mod Short
 pub mod Until
 pub mod Cut
 pub mod Taking
-pub mod Keeping
-pub mod Filling
+pub mod Gathering
 pub mod Commas
 pub mod Joined
 pub mod Examples

@@ -1,8 +1,12 @@
 -- A number field, by document 01, "The call program": digits of a number below 2^64, with no needless zero in front.
-use Rattle.std.specs.Prelude.{ℕ, ◌+◌, ◌-◌, ◌*◌, ◌^◌, Bool, ◌&&◌, not, cond, leb, ltb, eqb}
-use mathlib.Core.List.{List, foldl}
-use Rattle.lines.specs.declared.Field.{Field}
-use Rattle.lines.specs.declared.Field.TheVariants.{Empty, Number, Bad}
+use Rattle.std.specs.Prelude.{ℕ, ◌+◌, ◌-◌, ◌*◌, ◌^◌, Bool, ◌&&◌, not, cond, leb, ltb, eqb, Option, Some, None}
+use mathlib.Core.List.{List, [], ◌∷◌, foldl}
+
+-- what a field reads as
+pub data Field : Type 0 where
+  Empty : Field
+  Number : ℕ → Field
+  Bad : Field
 
 -- the digits 0 to 9
 abbrev pub is_digit : ℕ → Bool
@@ -25,3 +29,9 @@ after f b = cond (is_digit b) (with_digit f b) Bad
 -- the reading of a field, from its first byte to its last
 unfoldable pub field_of : List ℕ → Field
 field_of s = foldl after Empty s
+
+-- a field, by the number that the code hands back: where it hands back none, the field is empty or bad
+abbrev pub numbered : List ℕ → Option ℕ → Field
+numbered s (Some v) = Number v
+numbered [] None = Empty
+numbered (b ∷ s) None = Bad

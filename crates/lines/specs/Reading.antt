@@ -1,5 +1,5 @@
--- What a line reads as, and how the code says it: in an enum, beside an array for the numbers of a boot.
-use Rattle.std.specs.Prelude.{ℕ, ◌≡◌, List}
+-- What a line reads as, and how the code says it: as a line or none, beside an array for the numbers of a boot.
+use Rattle.std.specs.Prelude.{ℕ, ◌≡◌, List, Option, Some, None}
 use Rattle.calls.specs.declared.Call.{Call}
 use Rattle.lines.specs.declared.Line.{Line}
 use Rattle.lines.specs.declared.Line.TheVariants as line
@@ -15,10 +15,10 @@ abbrev pub unreadable : Reading
 unreadable = answered 1
 
 -- a line of the code, beside the numbers of its plan
-abbrev pub reads : Line → List ℕ → Reading
-reads (line.Answered n) plan = answered n
-reads (line.Boot d) plan = boot_by d plan
-reads (line.Call d c) plan = call_by d c
+abbrev pub reads : Option Line → List ℕ → Reading
+reads None plan = unreadable
+reads (Some (line.Boot d)) plan = boot_by d plan
+reads (Some (line.Call d c)) plan = call_by d c
 
 -- the plan behind a line: the numbers of a boot, and as it was behind any other line
 abbrev pub plan_after : Reading → List ℕ → List ℕ
@@ -27,18 +27,23 @@ plan_after (boot_by d numbers) plan = numbers
 plan_after (call_by d c) plan = plan
 
 -- a line of the code, with its plan before and after, is this reading
-abbrev pub ReadAs : Line → List ℕ → List ℕ → Reading → Type 0
+abbrev pub ReadAs : Option Line → List ℕ → List ℕ → Reading → Type 0
 ReadAs l before plan r = (reads l plan ≡ r) × (plan ≡ plan_after r before)
 
 -- a line with the plan as it was, and a boot whose numbers are put there
-pub plan_kept : (l : Line) (plan : List ℕ) {r : Reading} → reads l plan ≡ r → ReadAs l plan plan r
-plan_kept (line.Answered n) plan e = (e, rw (← e))
-plan_kept (line.Boot d) plan e = (e, rw (← e))
-plan_kept (line.Call d c) plan e = (e, rw (← e))
+pub plan_kept : (l : Option Line) (plan : List ℕ) {r : Reading} → reads l plan ≡ r → ReadAs l plan plan r
+plan_kept None plan e = (e, rw (← e))
+plan_kept (Some (line.Boot d)) plan e = (e, rw (← e))
+plan_kept (Some (line.Call d c)) plan e = (e, rw (← e))
 
-pub plan_filled : (d : ℕ) (before : List ℕ) {plan : List ℕ} {r : Reading} → boot_by d plan ≡ r → ReadAs (line.Boot d) before plan r
+pub plan_filled : (d : ℕ) (before : List ℕ) {plan : List ℕ} {r : Reading} → boot_by d plan ≡ r → ReadAs (Some (line.Boot d)) before plan r
 plan_filled d before e = (e, rw (← e))
 
 -- whatever the plan holds
-abbrev pub Whatever : Line → Reading → Type 0
+abbrev pub Whatever : Option Line → Reading → Type 0
 Whatever l r = (plan : List ℕ) → reads l plan ≡ r
+
+-- a call of the code, asked for by a domain; a line with none is not readable
+abbrev pub asked : ℕ → Option Call → Reading
+asked d None = unreadable
+asked d (Some c) = call_by d c

@@ -4,9 +4,8 @@ use Rattle.std.proofs.Common.{◌∙◌, ap, arith, lt-ltb, le-ltb, ltb-true, lt
 use mathlib.Core.List.{List, [], ◌∷◌, ◌++◌, foldl, foldl-append, append_assoc, append-nil}
 use Rattle.std.proofs.Math.Nat.{pow-succ'}
 use Rattle.bounded.specs.Bools.{and_left, and_right}
-use Rattle.lines.specs.Number.{field_of, after, is_digit, grown}
+use Rattle.lines.specs.Number.{Empty, Number, Bad, field_of, after, is_digit, grown}
 use Rattle.lines.specs.Bytes.{digit_low, digit_high, bad_stays, first_digit, next_digit}
-use Rattle.lines.specs.declared.Field.TheVariants.{Empty, Number, Bad}
 use Rattle.text.specs.Decimal.{digits_in, decimal, decimal_small}
 
 digit_back : (d : ℕ) → 48 + d - 48 ≡ d

@@ -5,15 +5,13 @@ use Rattle.std.proofs.Math.Path.{refl}
 use Rattle.std.proofs.Common.{◌∙◌, sym, inl, inr, arith, lt-ltb, ltb-false, ne_eqb}
 use Rattle.std.proofs.Math.Option.{Option, none, some}
 use Rattle.bounded.specs.Bools.{and_left, and_right, and_both}
-use Rattle.lines.specs.Number.{field_of}
+use Rattle.lines.specs.Number.{Field, Empty, Number, Bad, field_of}
 use Rattle.lines.specs.Split.{split}
 use Rattle.lines.specs.Arguments.{in_front, numbers_of}
 use Rattle.lines.specs.Letters.{letters_of}
 use Rattle.lines.specs.Reading.{unreadable}
 use Rattle.lines.specs.Grammar.{line_bytes, with_arguments, line_of}
 use Rattle.lines.specs.Joined.{behind_commas, split_joined, plain, all_plain}
-use Rattle.lines.specs.declared.Field.{Field}
-use Rattle.lines.specs.declared.Field.TheVariants.{Empty, Number, Bad}
 use Rattle.text.specs.Decimal.{digits_in, decimal}
 use Rattle.readback.specs.Back.{only_digits}
 

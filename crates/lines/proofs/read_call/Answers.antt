@@ -1,9 +1,10 @@
-use mathlib.Core.Path.{sym, ◌∙◌}
-use Rattle.lines.specs.Commas.{given_bad, given_numbers}
+use mathlib.Core.Path.{◌∙◌}
+use Rattle.lines.specs.Gathering.{call_gathered}
 use Rattle.lines.proofs.read_call.Goals as goal
 
-pub returns-in-Answered : goal.returns-in-Answered
-returns-in-Answered c plan = given_bad _ _ _ (sym c.in-Answered.is ∙ c.read_arguments-arguments.ensures)
+pub returns-in_err-call : goal.returns-in_err-call
+returns-in_err-call c plan =
+    rw c.from_residual-in_err-call.ensures (c.in_err-call.ensures c.args.domain ∙ call_gathered c.args.domain _ _ _ _ c.in_ok-count.ensures)
 
-pub returns-in-Numbers : goal.returns-in-Numbers
-returns-in-Numbers c plan = c.call_of.ensures plan ∙ given_numbers _ _ _ (sym c.in-Numbers.is ∙ c.read_arguments-arguments.ensures)
+pub returns : goal.returns
+returns c plan = c.in_ok-call.ensures c.args.domain ∙ call_gathered c.args.domain _ _ _ _ c.in_ok-count.ensures

@@ -1,9 +1,0 @@
-use native.Mathlib.Omega.{arith}
-use borrow.Author.Tests.{lt-ltb, le-ltb}
-use Rattle.lines.proofs.keep.Goals as goal
-
-pub returns-then-n-lt8 : goal.returns-then-n-lt8
-returns-then-n-lt8 c = rw (lt-ltb c.args.n 8 (omega arith))
-
-pub returns-else-n-lt8 : goal.returns-else-n-lt8
-returns-else-n-lt8 c = rw (le-ltb c.args.n 8 (omega arith))

@@ -1,0 +1,5 @@
+use Rattle.lines.specs.Gathering.{Gathering}
+use Rattle.lines.proofs.read_numbers.Given as goal
+
+abbrev pub invariant-loop-field : goal.invariant-loop-field
+invariant-loop-field l = Gathering (goal.iterator-loop-field).next_gives l.field-iterator l.t l.n l.initial.into l.into
