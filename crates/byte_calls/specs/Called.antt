@@ -1,5 +1,6 @@
 -- What a C function does with its three slices: document 02, T-02.
-use Rattle.std.specs.Prelude.{ℕ, Bool, true, false, cond, ◌&&◌, List, eqb, length}
+use Rattle.std.specs.Prelude.{ℕ, Bool, true, false, cond, ◌&&◌, List, eqb, length, Ok, Err}
+use Rattle.std.specs.Result.{is_ok}
 use Rattle.layout.specs.Sizes.{state_size}
 use Rattle.layout.specs.Layout.{state}
 use Rattle.image.specs.Image.{reading}
@@ -7,8 +8,7 @@ use Rattle.calls.specs.Answers.{refusal_number, values_of}
 use Rattle.calls.specs.Step.{Result, world, step}
 use Rattle.calls.specs.Boot.{boot}
 use Rattle.calls.specs.declared.Call.{Call}
-use Rattle.calls.specs.declared.Answer.{Answer}
-use Rattle.calls.specs.declared.Answer.TheVariants.{Done, Refused}
+use Rattle.calls.specs.Answers.{Answer}
 use Rattle.calls.specs.declared.Outcome.{Outcome}
 use Rattle.slices.specs.Slices.{words, values, cleared}
 
@@ -35,16 +35,15 @@ refused_by n s = told n (slices s.image s.store (cleared s.values))
 
 -- done, the slices hold the state, the words and the values
 abbrev pub answered_as : Answer → Slices → Outcome → List ℕ → Told
-answered_as (Done value) s o ws = told 0 (slices (state.put o.state) (words.put ws) (values.put (values_of o)))
-answered_as (Refused why) s o ws = refused_by (refusal_number why) s
+answered_as (Ok value) s o ws = told 0 (slices (state.put o.state) (words.put ws) (values.put (values_of o)))
+answered_as (Err why) s o ws = refused_by (refusal_number why) s
 
 abbrev pub told_by : Slices → Outcome → List ℕ → Told
 told_by s o ws = answered_as o.answer s o ws
 
 -- the answer 0
 abbrev pub is_done : Answer → Bool
-is_done (Done value) = true
-is_done (Refused why) = false
+is_done a = is_ok a
 
 -- 2 for the store's length; 13 for the values' length, or an image that does not serve; then what the call comes to
 unfoldable pub checked_by : Bool → Slices → Result → Told

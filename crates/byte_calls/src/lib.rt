@@ -10,10 +10,9 @@ use crate::changes::changed_by;
 use crate::store::{WORDS, load, save};
 use apply::unchecked;
 use boot::boot;
-use calls::replies::refusal_number;
-use calls::{Answer, BOOT_NUMBERS, Call, Outcome};
+use calls::{BOOT_NUMBERS, Call, Outcome};
 use image::{read_image, write_image};
-use slices::lengths::{has_length, wrong_length};
+use slices::lengths::{check_lengths, has_length};
 use slices::values::{put_values, refuse};
 use state::State;
 
@@ -26,16 +25,6 @@ pub struct Changed {
     pub state: bool,
     pub from: usize,
     pub to: usize,
-}
-
-// Whether the call is done.
-fn is_done(a: Answer) -> bool
-    ensures { result ≡ is_done a }
-{
-    match a {
-        Answer::Done(value) => return true,
-        Answer::Refused(why) => return false,
-    }
 }
 
 // The state's image, where the state can have changed.
@@ -63,24 +52,24 @@ fn conclude(
     let answer = outcome.answer;
     let s = outcome.state;
     let f = outcome.fields;
-    keep_state(image, s, changed.state & is_done(answer));
+    keep_state(image, s, changed.state & answer.is_ok());
     match answer {
-        Answer::Done(value) => {
+        Ok(value) => {
             save(store, words, changed.from, changed.to);
             put_values(values, value, f);
-            return 0;
+            0
         }
-        Answer::Refused(why) => return refuse(values, refusal_number(why)),
+        Err(why) => refuse(values, u64::from(why)),
     }
 }
 
-// Any call but BT: 2 and 13 for the lengths, 13 for an image that does not read, then what the call answers.
+// Any call but BT: 2 and 13 for the lengths, 13 for an image that does not read, then what the call answers. The three slices and the number
+// are those of the C functions.
 pub fn call(image: &mut [u8], store: &mut [u8], values: &mut [u8], d: u64, call: Call) -> u64
     ensures { told result (slices image.new store.new values.new) ≡ called (slices image.old store.old values.old) d call }
 {
-    let wrong = wrong_length(store.len(), values.len());
-    if wrong != 0 {
-        return refuse(values, wrong);
+    if let Err(wrong) = check_lengths(store.len(), values.len()) {
+        return refuse(values, u64::from(wrong));
     }
     let reading = read_image(image);
     if !reading.readable {
@@ -102,9 +91,8 @@ pub fn boot_call(
 ) -> u64
     ensures { told result (slices image.new store.new values.new) ≡ booted (slices image.old store.old values.old) d plan }
 {
-    let wrong = wrong_length(store.len(), values.len());
-    if wrong != 0 {
-        return refuse(values, wrong);
+    if let Err(wrong) = check_lengths(store.len(), values.len()) {
+        return refuse(values, u64::from(wrong));
     }
     if !has_length(image) {
         return refuse(values, 13);

@@ -1,11 +1,11 @@
 -- The figures of the accounts as text: document 02, T-05.
-use Rattle.std.specs.Prelude.{ℕ, ◌+◌, ◌≤◌, ◌≡◌, List, [], ◌∷◌, ◌++◌, length}
-use Rattle.std.proofs.Common.{append-nil, arith, le-leb}
+use Rattle.std.specs.Prelude.{ℕ, ◌+◌, ◌≤◌, ◌≡◌, refl, List, [], ◌∷◌, ◌++◌, length}
+use Rattle.std.proofs.Common.{append-nil, length-append, arith, le-leb}
 use Rattle.state.specs.Pages.{pages_of}
 use Rattle.state.specs.declared.Table.{Table}
 use Rattle.text.specs.Decimal.{decimal}
 use Rattle.text.specs.Puts.{Put, put_from}
-use Rattle.text.specs.Answer.{fields_text, answer_line, printed, printed_end}
+use Rattle.text.specs.Answer.{fields_text, answer_line, printed, printed_end, with_line}
 use Rattle.text.specs.Size.{answer_length}
 
 -- the line of an account: the account, a comma, its pages and a line feed
@@ -27,3 +27,11 @@ pub line_put : (t : Table) (a : ℕ) (old : List ℕ) (at : ℕ) {new : List ℕ
 line_put t a old at h n e =
     let r = le-leb (at + 42) (length old) h in
     (rw (n, e, r, ← line_is t a) (put_from old at (answer_line a (pages_of t a) []) (omega arith)), rw (e, r) (omega (arith, answer_length a (pages_of t a) [])))
+
+-- behind another text, where there are as many
+pub figure_put : (t : Table) (a : ℕ) (n : ℕ) (s new : List ℕ) → length s + 42 ≤ n → new ≡ with_line n s a (pages_of t a) []
+    → (new ≡ s ++ figure_line t a) × (length new ≤ length s + 42)
+figure_put t a n s new h e =
+    let r = le-leb (length s + 42) n h in
+    let line : List ℕ = answer_line a (pages_of t a) [] in
+    rw (e, r, ← line_is t a) (refl, omega (arith, length-append s line, answer_length a (pages_of t a) []))

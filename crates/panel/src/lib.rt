@@ -1,4 +1,5 @@
-// The C functions of include/reshqobi.h: each hands its numbers on as a call on the three slices.
+// The C functions of include/reshqobi.h: each hands its numbers on as a call on the three slices. Their names, their numbers and the three
+// slices are the C interface, which is why they are one for each call.
 #![tactic(auto)]
 
 ghost use Rattle.std.specs.Prelude.{◌≡◌, [], ◌∷◌};

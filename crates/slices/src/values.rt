@@ -1,8 +1,7 @@
 // The values behind an answer, as bytes.
-ghost use Rattle.std.specs.Prelude.{◌≡◌, ◌<◌};
+ghost use Rattle.std.specs.Prelude.{◌≡◌, ◌<◌, Ok};
 ghost use Rattle.bounded.specs.Fill.{tabulate};
 ghost use Rattle.calls.specs.Answers.{values_from};
-ghost use Rattle.calls.specs.declared.Answer.TheVariants.{Done};
 ghost use Rattle.slices.specs.Slices.{filled, cleared};
 ghost use Rattle.slices.specs.Laws.Valued.{value_at};
 
@@ -13,45 +12,23 @@ use layout::words::put_words;
 // How many bytes the values take.
 pub const VALUES: usize = 88;
 
-// Word i of the values of a done call.
-fn value_at(value: u64, f: Fields, i: usize) -> u64
-    requires { i < 11 }
-    ensures { result ≡ value_at value f i }
-{
-    if f.count == 0 {
-        if i == 0 {
-            return value;
-        }
-        return 0;
-    }
-    if f.count <= i as u64 {
-        return 0;
-    }
-    f.values[i]
-}
-
-// The values of a done call.
+// The values of a done call: the value alone or the fields, and zeros behind them.
 fn value_words(value: u64, f: Fields) -> [u64; 11]
     ensures { result ≡ tabulate 11 (value_at value f) }
 {
-    [
-        value_at(value, f, 0),
-        value_at(value, f, 1),
-        value_at(value, f, 2),
-        value_at(value, f, 3),
-        value_at(value, f, 4),
-        value_at(value, f, 5),
-        value_at(value, f, 6),
-        value_at(value, f, 7),
-        value_at(value, f, 8),
-        value_at(value, f, 9),
-        value_at(value, f, 10),
-    ]
+    let mut words = [0; 11];
+    if f.count == 0 {
+        words[0] = value;
+        return words;
+    }
+    let n = f.count.min(11) as usize;
+    words[..n].copy_from_slice(&f.values[..n]);
+    words
 }
 
 // The values of a done call as bytes; a slice of another length is not touched.
 pub fn put_values(bytes: &mut [u8], value: u64, f: Fields)
-    ensures { bytes.new ≡ filled bytes.old (values_from (Done value) f) }
+    ensures { bytes.new ≡ filled bytes.old (values_from (Ok value) f) }
 {
     if bytes.len() != VALUES {
         return;
@@ -60,7 +37,7 @@ pub fn put_values(bytes: &mut [u8], value: u64, f: Fields)
     put_words(bytes, &words, 0, 11);
 }
 
-// A refusal by a number: the values are cleared where they have their length.
+// A refusal by the paper's number, which is what a C function gives: the values are cleared where they have their length.
 pub fn refuse(bytes: &mut [u8], number: u64) -> u64
     ensures { (result ≡ number) × (bytes.new ≡ cleared bytes.old) }
 {

@@ -40,6 +40,10 @@ printed out at line answer vs = cond (has_room out at (length vs)) (with_text ou
 abbrev pub printed_end : List ℕ → ℕ → ℕ → ℕ → List ℕ → ℕ
 printed_end out at line answer vs = cond (has_room out at (length vs)) (at + length (answer_line line answer vs)) at
 
+-- a text in n bytes with a line behind it, where the longest line with as many values has room; else as it was
+abbrev pub with_line : ℕ → List ℕ → ℕ → ℕ → List ℕ → List ℕ
+with_line n t line answer vs = cond (leb (length t + (42 + 21 * length vs)) n) (t ++ answer_line line answer vs) t
+
 module _ (out : List ℕ) (at line answer : ℕ) (vs : List ℕ) where
   pub no_room : length out < at + (42 + 21 * length vs) → (out ≡ printed out at line answer vs) × (at ≡ printed_end out at line answer vs)
   no_room h = (rw (lt-leb _ _ h), rw (lt-leb _ _ h))

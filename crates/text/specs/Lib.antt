@@ -3,3 +3,7 @@ pub mod Puts
 pub mod Spelled
 pub mod Answer
 pub mod Size
+pub mod Grown
+pub mod Held
+pub mod Texts
+pub mod Digits

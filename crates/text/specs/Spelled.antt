@@ -5,7 +5,7 @@ use Rattle.std.proofs.lemmas.List.{set_split, take-set-le}
 use Rattle.text.specs.Decimal.{last_digits}
 use Rattle.text.specs.Puts.{with_text, Put, put_from}
 
-digits_length : (k n : ℕ) → length (last_digits k n) ≡ k
+pub digits_length : (k n : ℕ) → length (last_digits k n) ≡ k
 digits_length zero n = refl
 digits_length (suc k) n = omega (arith, digits_length k (n / 10), length-append (last_digits k (n / 10)) ((48 + n % 10) ∷ []))
 

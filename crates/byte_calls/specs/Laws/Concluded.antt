@@ -1,5 +1,5 @@
 -- Where a C function returns: one law for each place, whatever call it is.
-use Rattle.std.specs.Prelude.{ℕ, ◌<◌, ◌≤◌, ◌≡◌, refl, Bool, ◌&&◌, List, eqb, ◌⊎◌}
+use Rattle.std.specs.Prelude.{ℕ, ◌<◌, ◌≤◌, ◌≡◌, refl, Bool, ◌&&◌, List, eqb, ◌⊎◌, Ok, Err}
 use Rattle.std.proofs.Common.{sym, ◌∙◌, true≢false, inl, inr}
 use Rattle.std.proofs.Math.Path.{ap}
 use Rattle.std.proofs.Math.Bool.{true, false, cond}
@@ -18,7 +18,6 @@ use Rattle.calls.specs.Step.{Result, world, result_of, step, unchecked}
 use Rattle.calls.specs.Laws.Unchecked.{sound_unchecked}
 use Rattle.calls.proofs.Sound.{words_kept}
 use Rattle.calls.specs.declared.Call.{Call}
-use Rattle.calls.specs.declared.Answer.TheVariants.{Done, Refused}
 use Rattle.calls.specs.declared.Outcome.{Outcome}
 use Rattle.calls.specs.declared.Refusal.{Refusal}
 use Rattle.slices.specs.Slices.{words, values, filled, cleared, wrong_length}
@@ -40,20 +39,20 @@ pub record Ready (s : Slices) (ws : List ℕ) (ch : Changed) (o : Outcome) : Typ
   pub outside : Outside ch.from ch.to s.store ws
 
 -- done: the state's image where the state can have changed, the store, the values
-pub by_done : (s : Slices) (ws : List ℕ) (ch : Changed) (o : Outcome) (value : ℕ) (after : Slices) → Ready s ws ch o → o.answer ≡ Done value
+pub by_done : (s : Slices) (ws : List ℕ) (ch : Changed) (o : Outcome) (value : ℕ) (after : Slices) → Ready s ws ch o → o.answer ≡ Ok value
     → after.image ≡ cond (ch.state && is_done o.answer) (written s.image o.state) s.image → after.store ≡ words.put ws
-    → after.values ≡ filled s.values (values_from (Done value) o.fields) → told 0 after ≡ told_by s o ws
+    → after.values ≡ filled s.values (values_from (Ok value) o.fields) → told 0 after ≡ told_by s o ws
 unfolding written
 by_done s ws ch o value after r a i t v = rw (a, t, v, filled_whole s.values _ r.values_long) (rw (i, a, eq-eqb _ state_size r.image_long) (go ch.state refl))
   where
     go : (b : Bool) → ch.state ≡ b
-        → told 0 (slices (cond (b && true) (state.put o.state) s.image) (words.put ws) (values.put (values_from (Done value) o.fields)))
-        ≡ told 0 (slices (state.put o.state) (words.put ws) (values.put (values_from (Done value) o.fields)))
+        → told 0 (slices (cond (b && true) (state.put o.state) s.image) (words.put ws) (values.put (values_from (Ok value) o.fields)))
+        ≡ told 0 (slices (state.put o.state) (words.put ws) (values.put (values_from (Ok value) o.fields)))
     go true e = refl
     go false e = rw (r.same_state e)
 
 -- refused: the image is not written
-pub by_refused : (s : Slices) (ws : List ℕ) (b : Bool) (o : Outcome) (why : Refusal) (n : ℕ) (image vs : List ℕ) → o.answer ≡ Refused why
+pub by_refused : (s : Slices) (ws : List ℕ) (b : Bool) (o : Outcome) (why : Refusal) (n : ℕ) (image vs : List ℕ) → o.answer ≡ Err why
     → image ≡ cond (b && is_done o.answer) (written s.image o.state) s.image → n ≡ refusal_number why → vs ≡ cleared s.values
     → told n (slices image s.store vs) ≡ told_by s o ws
 by_refused s ws b o why n image vs a i e v = rw (a, e, v) (ap (λ x. told (refusal_number why) (slices x s.store (cleared s.values))) (rw a at i ∙ not_done b))

@@ -1,8 +1,7 @@
 -- What `refused_changes_nothing` (calls) is for a C call, byte for byte; the values are cleared: document 02, T-02.
-use Rattle.std.specs.Prelude.{ℕ, ◌≡◌, refl, Bool, true, false, cond, ◌&&◌, List, eqb, length}
+use Rattle.std.specs.Prelude.{ℕ, ◌≡◌, refl, Bool, true, false, cond, ◌&&◌, List, eqb, length, Ok, Err}
 use Rattle.calls.specs.Step.{Result}
-use Rattle.calls.specs.declared.Answer.{Answer}
-use Rattle.calls.specs.declared.Answer.TheVariants.{Done, Refused}
+use Rattle.calls.specs.Answers.{Answer}
 use Rattle.calls.specs.declared.Call.{Call}
 use Rattle.slices.specs.Slices.{cleared}
 use Rattle.byte_calls.specs.Called.{Slices, slices, Told, refused_by, answered_as, told_by, checked_by, called, booted}
@@ -12,8 +11,8 @@ abbrev pub Left : Slices → Told → Type 0
 Left s t = (t.number ≡ 0 → ⊥) → t.after ≡ slices s.image s.store (cleared s.values)
 
 answer_leaves : (s : Slices) (r : Result) (a : Answer) → Left s (answered_as a s r.outcome r.words)
-answer_leaves s r (Done value) h = absurd (h refl)
-answer_leaves s r (Refused why) h = refl
+answer_leaves s r (Ok value) h = absurd (h refl)
+answer_leaves s r (Err why) h = refl
 
 checked_leaves : (serves : Bool) (s : Slices) (r : Result) → Left s (checked_by serves s r)
 unfolding checked_by

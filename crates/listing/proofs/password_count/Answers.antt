@@ -1,8 +1,6 @@
-use Rattle.bounded.specs.Sum.{total}
-use Rattle.listing.specs.Lines.{password_count}
-use borrow.Author.Rules.{rules}
+use Rattle.std.proofs.Common.{◌≡◌, length, rules}
+use Rattle.listing.specs.Laws.{passwords_counted}
 use Rattle.listing.proofs.password_count.Goals as goal
 
 pub returns : goal.returns
-unfolding password_count total
-returns c = search rules
+returns c = let h : length c.args.o.now.passwords ≡ 4 = search rules in rw (← passwords_counted c.args.o.now h) (search rules)

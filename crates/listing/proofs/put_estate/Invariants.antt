@@ -1,13 +1,11 @@
-use Prim.Native.Nat.{◌-◌, ◌+◌, ◌*◌, ◌≤◌}
-use mathlib.Core.Path.{◌≡◌}
-use lib.ListN.{length}
+use Rattle.std.proofs.Common.{◌≡◌, ◌+◌, ◌*◌, ◌≤◌, length}
 use Rattle.state.specs.Places.{object_at}
-use Rattle.text.specs.Puts.{Put}
-use Rattle.listing.specs.Lines.{place_line, texts}
+use Rattle.text.specs.Texts.{texts_behind}
+use Rattle.listing.specs.Lines.{place_line}
 use Rattle.listing.proofs.put_estate.Given as goal
 
-abbrev pub invariant-loop-k : goal.invariant-loop-k
-invariant-loop-k l = Put l.initial.out l.at (texts l.k (λ i. place_line (object_at l.e i))) l.out l.m × (l.k ≤ 8) × (length l.out ≡ length l.initial.out) × (l.m ≤ l.at + 105 * l.k)
-
-abbrev pub decreases-loop-k : goal.decreases-loop-k
-decreases-loop-k l = 8 - l.k
+abbrev pub invariant-loop-o : goal.invariant-loop-o
+invariant-loop-o l = record {
+  lines : l.text ≡ texts_behind l.initial.text l.o-index (λ k. place_line (object_at l.e k));
+  bound : length l.text ≤ length l.initial.text + 105 * l.o-index;
+}

@@ -1,24 +1,26 @@
 -- The values as they are written.
-use Rattle.std.specs.Prelude.{ℕ, suc, ◌<◌, ◌≤◌, ◌≡◌, refl, List, [], ◌∷◌, length, get_or, take}
-use Rattle.std.proofs.Common.{sym, ◌∙◌, arith, get_or-take, eq-eqb, ne_eqb}
-use Rattle.bounded.specs.Fill.{tabulate}
+use Rattle.std.specs.Prelude.{ℕ, suc, ◌+◌, ◌-◌, ◌<◌, ◌≤◌, ◌≡◌, refl, List, [], ◌∷◌, ◌++◌, length, get_or, take, drop, replicate, min, Ok}
+use Rattle.std.proofs.Common.{sym, ap, ◌∙◌, arith, get_or-take, eq-eqb, ne_eqb, ⊎_elim, length-append, length-take-le, length-drop}
+use Rattle.std.proofs.Math.ListN.{get_or-append}
+use Rattle.std.proofs.lemmas.Bool.{cases_lt}
+use Rattle.std.proofs.lemmas.List.{ext_get_or, get_or-append_right, get_or-drop, get_or-replicate}
+use Rattle.bounded.specs.Fill.{tabulate, tabulate_at}
 use Rattle.codec.specs.Laid.{lay_all}
 use Rattle.layout.specs.Whole.{words_put}
 use Rattle.calls.specs.Answers.{values_from}
-use Rattle.calls.specs.declared.Answer.TheVariants.{Done}
 use Rattle.calls.specs.declared.Fields.{Fields}
 use Rattle.slices.specs.Slices.{values, filled}
 
 -- value i of a done call; 0 behind the last
 abbrev pub value_at : ℕ → Fields → ℕ → ℕ
-value_at value f i = get_or (values_from (Done value) f) i 0
+value_at value f i = get_or (values_from (Ok value) f) i 0
 
 -- the eleven values over a slice of their length
 pub valued : (value : ℕ) (f : Fields) (bytes : List ℕ) → length bytes ≡ 88
-    → words_put bytes (tabulate 11 (value_at value f)) 0 11 ≡ filled bytes (values_from (Done value) f)
+    → words_put bytes (tabulate 11 (value_at value f)) 0 11 ≡ filled bytes (values_from (Ok value) f)
 unfolding words_put values filled
 valued value f bytes l =
-    let vs : List ℕ = values_from (Done value) f in
+    let vs : List ℕ = values_from (Ok value) f in
     rw l (lay_all (values.put vs) bytes (l ∙ sym (values.put_length vs)))
 
 -- over a slice of another length
@@ -54,3 +56,31 @@ module _ (value : ℕ) (f : Fields) (i : ℕ) where
 
   pub value_there : (f.count ≡ 0 → ⊥) → i < f.count → get_or f.values i 0 ≡ value_at value f i
   value_there e h = rw (ne_eqb _ 0 e) (sym (get_or-take f.count f.values i 0 h))
+
+-- the eleven words: the value alone or the fields, and zeros behind them
+pub words_alone : (value : ℕ) (f : Fields) → f.count ≡ 0 → value ∷ replicate 10 0 ≡ tabulate 11 (value_at value f)
+words_alone value f e = rw (eq-eqb f.count 0 e)
+
+fields_at : (value : ℕ) (f : Fields) (shown zeros : List ℕ) (n : ℕ) → (f.count ≡ 0 → ⊥) → n ≡ min f.count 11 → length f.values ≡ 11
+    → shown ≡ take n f.values → zeros ≡ drop n (replicate 11 0) → shown ++ zeros ≡ tabulate 11 (value_at value f)
+fields_at value f shown zeros n e m l s z =
+    ext_get_or 0 (shown ++ zeros) (tabulate 11 (value_at value f)) all
+    (λ i h. let k : i < 11 = omega (arith, all, h) in at i k ∙ sym (tabulate_at 11 (value_at value f) i 0 k))
+  where
+    size : length shown ≡ n
+    size = rw s (length-take-le n f.values (omega (arith, m, l)))
+
+    all : length (shown ++ zeros) ≡ 11
+    all = let none : List ℕ = replicate 11 0 in omega (arith, length-append shown zeros, size, ap length z, length-drop n none, m)
+
+    at : (i : ℕ) → i < 11 → get_or (shown ++ zeros) i 0 ≡ value_at value f i
+    at i h =
+        ⊎_elim
+        (λ b. get_or-append shown zeros 0 i (omega (arith, size, b)) ∙ rw s (get_or-take n f.values i 0 b) ∙ value_there value f i e (omega (arith, m, b)))
+        (λ b. get_or-append_right shown zeros n i 0 size b ∙ rw z (get_or-drop n (replicate 11 0) (i - n) 0)
+        ∙ get_or-replicate 11 (n + (i - n)) 0 0 (omega (arith, h, b)) ∙ value_past value f i e (omega (arith, m, h, b)))
+        (cases_lt i n)
+
+pub words_fields : (value : ℕ) (f : Fields) (n : ℕ) → (f.count ≡ 0 → ⊥) → n ≡ min f.count 11 → length f.values ≡ 11
+    → take n f.values ++ drop n (replicate 11 0) ≡ tabulate 11 (value_at value f)
+words_fields value f n e m l = fields_at value f (take n f.values) (drop n (replicate 11 0)) n e m l refl refl
