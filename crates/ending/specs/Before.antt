@@ -1,5 +1,5 @@
 -- The state behind an input in which no boot is granted: document 02, T-05 and T-06.
-use Rattle.std.specs.Prelude.{ℕ, ◌≡◌, refl, eqb}
+use Rattle.std.specs.Prelude.{ℕ, ◌≡◌, refl, eqb, Ok, Err}
 use mathlib.Core.List.{List, [], ◌∷◌, foldl}
 use Rattle.std.proofs.Common.{eqb-true}
 use Rattle.bounded.specs.Bools.{cond_ind}
@@ -8,8 +8,7 @@ use Rattle.calls.specs.Answers.{number_of}
 use Rattle.calls.specs.View.{World}
 use Rattle.calls.specs.Step.{step}
 use Rattle.calls.specs.Boot.{boot}
-use Rattle.calls.specs.declared.Answer.{Answer}
-use Rattle.calls.specs.declared.Answer.TheVariants.{Done, Refused}
+use Rattle.calls.specs.Answers.{Answer}
 use Rattle.runs.specs.Laws.Unbooted.{Unbooted, empty_unbooted, step_unbooted}
 use Rattle.lines.specs.Grammar.{line_of}
 use Rattle.lines.specs.Reading.{Reading, answered, boot_by, call_by}
@@ -29,8 +28,8 @@ NoBoot r [] = Unit {0}
 NoBoot r (b ∷ bs) = (b ≡ 10 → Boots r.world (line_of r.line) → ⊥) × NoBoot (on_byte r b) bs
 
 refused_stays : (old : State) (answer : Answer) (new : State) → (number_of answer ≡ 0 → ⊥) → Unbooted old → Unbooted (state_after old answer new)
-refused_stays old (Done value) new n u = absurd (n refl)
-refused_stays old (Refused why) new n u = u
+refused_stays old (Ok value) new n u = absurd (n refl)
+refused_stays old (Err why) new n u = u
 
 line_unbooted : (w : World) (r : Reading) → (Boots w r → ⊥) → Unbooted w.state → Unbooted (reply step w r).world.state
 unfolding reply

@@ -1,5 +1,5 @@
 -- The ledger of an account along an input, with any boots in it: document 02, T-05. What the figure of the account is made of.
-use Rattle.std.specs.Prelude.{ℕ, ◌+◌, ◌≡◌, refl, true, cond, eqb}
+use Rattle.std.specs.Prelude.{ℕ, ◌+◌, ◌≡◌, refl, true, cond, eqb, Ok, Err}
 use mathlib.Core.List.{List, [], ◌∷◌}
 use Rattle.std.proofs.Common.{arith, ne_eqb}
 use Rattle.state.specs.Pages.{pages_of}
@@ -11,8 +11,7 @@ use Rattle.calls.specs.Boot.{home_pages, boot}
 use Rattle.calls.specs.Laws.Order.{refusal_number_lem}
 use Rattle.calls.proofs.Sound.{step_sound}
 use Rattle.calls.specs.Laws.Booted.{boot_done, boot_sound}
-use Rattle.calls.specs.declared.Answer.{Answer}
-use Rattle.calls.specs.declared.Answer.TheVariants.{Done, Refused}
+use Rattle.calls.specs.Answers.{Answer}
 use Rattle.runs.specs.Ledger.{new_pages, gone_pages, granted}
 use Rattle.runs.specs.Laws.Figure.{step_figure}
 use Rattle.runs.specs.Laws.Ledger.{boot_figure}
@@ -65,12 +64,12 @@ line_balanced a w (boot_by d plan) l h = go (boot w.words d plan).outcome.answer
         → Balanced a
         (record { state = state_after w.state x (boot w.words d plan).outcome.state; words = (boot w.words d plan).words })
         (cond (eqb (number_of x) 0) (pages (home_pages plan a) 0) l)
-    go (Done v) e =
+    go (Ok v) e =
         record {
           is_sound = boot_sound w.words d plan;
           balance = rw (boot_done w.words d plan (rw e refl)) (omega (arith, boot_figure a plan));
         }
-    go (Refused why) e = rw (ne_eqb (refusal_number why) 0 (λ z. omega (arith, refusal_number_lem why))) (record { is_sound = h.is_sound; balance = h.balance })
+    go (Err why) e = rw (ne_eqb (refusal_number why) 0 (λ z. omega (arith, refusal_number_lem why))) (record { is_sound = h.is_sound; balance = h.balance })
 line_balanced a w (call_by d c) l h =
     let e : Event = record { domain = d; call = c } in
     record { is_sound = step_sound w d c h.is_sound; balance = omega (arith, h.balance, step_figure a w e h.is_sound) }

@@ -21,13 +21,11 @@ fn main(rt: HostRuntime) {
     let output = rt.stdout();
     let mut store = [0u64; 8192];
     let mut last = [0u8; 273];
-    if !write_text(output, &header()) {
+    if write_text(output, &header()).is_err() {
         return;
     }
-    let end = run(rt.stdin(), output, &mut store, true);
-    if end.written {
-        let f = end.feed;
+    if let Ok(f) = run(rt.stdin(), Some(output), &mut store) {
         let at = put_last(f, &mut last);
-        write_text(output, &last[..at]);
+        let _ = write_text(output, &last[..at]);
     }
 }

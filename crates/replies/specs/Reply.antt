@@ -1,13 +1,12 @@
 -- What a line is answered with: document 01, "The call program".
-use Rattle.std.specs.Prelude.{ℕ, List, [], ◌∷◌}
+use Rattle.std.specs.Prelude.{ℕ, List, [], ◌∷◌, Ok, Err}
 use Rattle.state.specs.declared.State.{State}
 use Rattle.calls.specs.Answers.{number_of, values_of}
 use Rattle.calls.specs.View.{World}
 use Rattle.calls.specs.Step.{Result, world, world_of}
 use Rattle.calls.specs.Boot.{boot}
 use Rattle.calls.specs.declared.Call.{Call}
-use Rattle.calls.specs.declared.Answer.{Answer}
-use Rattle.calls.specs.declared.Answer.TheVariants.{Done, Refused}
+use Rattle.calls.specs.Answers.{Answer}
 use Rattle.lines.specs.Reading.{Reading, answered, boot_by, call_by}
 
 -- what a line is answered with: a number, what stands behind it, and the state and store after it
@@ -30,8 +29,8 @@ called r = record { number = number_of r.outcome.answer; values = values_of r.ou
 
 -- a BT that is refused keeps the state that the program had
 abbrev pub state_after : State → Answer → State → State
-state_after old (Done value) new = new
-state_after old (Refused why) new = old
+state_after old (Ok value) new = new
+state_after old (Err why) new = old
 
 abbrev pub booted_from : World → Result → Reply
 booted_from w r =

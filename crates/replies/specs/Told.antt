@@ -3,7 +3,7 @@ use Rattle.std.specs.Prelude.{ℕ, ◌+◌, ◌*◌, ◌≤◌, ◌≡◌, refl,
 use Rattle.std.proofs.Common.{arith, length-take, le-leb, leb-true}
 use Rattle.calls.specs.Answers.{value_of, values_from}
 use Rattle.calls.specs.View.{World}
-use Rattle.calls.specs.declared.Answer.{Answer}
+use Rattle.calls.specs.Answers.{Answer}
 use Rattle.calls.specs.declared.Fields.{Fields}
 use Rattle.text.specs.Answer.{answer_line, printed, printed_end}
 use Rattle.text.specs.Size.{up_to_end, answer_length}

@@ -6,7 +6,7 @@ ghost use Rattle.replies.specs.Told.{Told};
 
 use crate::NewState;
 use boot::boot;
-use calls::{Answer, BOOT_NUMBERS};
+use calls::BOOT_NUMBERS;
 use state::State;
 use text::put_answer;
 
@@ -23,14 +23,10 @@ pub fn boot_line(
     ensures { Told number out.old at out.new result.at (world result.state store.new) (reply unchecked (world s store.old) (boot_by d plan)) }
 {
     let o = boot(store, d, plan);
-    let answer = o.answer;
-    let fields = o.fields;
-    let end = put_answer(out, at, number, answer, fields);
-    match answer {
-        Answer::Done(_) => {
-            let state = o.state;
-            return NewState { state, at: end };
-        }
-        Answer::Refused(_) => return NewState { state: s, at: end },
-    }
+    let at = put_answer(out, at, number, o.answer, o.fields);
+    let state = match o.answer {
+        Ok(_) => o.state,
+        Err(_) => s,
+    };
+    NewState { state, at }
 }

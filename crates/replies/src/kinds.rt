@@ -1,26 +1,24 @@
 // What a line asks for; and an access, and a call on objects, answered from the parts of the state that they read.
-ghost use Rattle.std.specs.Prelude.{◌≡◌};
+ghost use Rattle.std.specs.Prelude.{◌≡◌, Ok};
 ghost use Rattle.calls.specs.Parts.{caller_of};
-ghost use Rattle.calls.specs.declared.Caller.TheVariants.{Known as Caller-as-Known};
 ghost use Rattle.replies.specs.Kinds.{call_kind, kind_of, AccessTold, ObjectTold};
 
-use crate::{Kind, NewEstate};
+use crate::{Kind, ObjectReply};
 use access_calls::access;
 use apply::object_call;
-use calls::replies::refusal_number;
-use calls::{Access, Call, Caller, ObjectCall, caller_of};
+use calls::{Access, Call, ObjectCall, caller_of};
 use lines::Line;
 use state::{Accounts, Frame, Table};
 use text::{answer_number, answer_value, put_line};
 
 // A call of a domain that is known.
 fn known_kind(d: usize, call: Call) -> Kind
-    ensures { result ≡ call_kind (Caller-as-Known d) call }
+    ensures { result ≡ call_kind (Ok d) call }
 {
     match call {
-        Call::OnStore(c) => return Kind::Access(d, c),
-        Call::OnObject(c) => return Kind::Object(d, c),
-        Call::OnDomain(c) => return Kind::Domain(d, c),
+        Call::OnStore(c) => Kind::Access(d, c),
+        Call::OnObject(c) => Kind::Object(d, c),
+        Call::OnDomain(c) => Kind::Domain(d, c),
     }
 }
 
@@ -28,21 +26,20 @@ fn known_kind(d: usize, call: Call) -> Kind
 fn call_kind(d: u64, call: Call, words: usize) -> Kind
     ensures { result ≡ call_kind (caller_of words d) call }
 {
-    let caller = caller_of(words, d);
-    match caller {
-        Caller::Known(k) => return known_kind(k, call),
-        Caller::Refused(why) => return Kind::Known(refusal_number(why)),
+    match caller_of(words, d) {
+        Ok(k) => known_kind(k, call),
+        Err(why) => Kind::Known(u64::from(why)),
     }
 }
 
-// A line, with a store of so many words.
-pub fn kind_of(words: usize, reading: Line) -> Kind
+// A line, with a store of so many words; 1 answers one that is not readable.
+pub fn kind_of(words: usize, reading: Option<Line>) -> Kind
     ensures { result ≡ kind_of words reading }
 {
     match reading {
-        Line::Answered(number) => return Kind::Known(number as u64),
-        Line::Boot { domain } => return Kind::Boot(domain),
-        Line::Call { domain, call } => return call_kind(domain, call, words),
+        None => Kind::Known(1),
+        Some(Line::Boot { domain }) => Kind::Boot(domain),
+        Some(Line::Call { domain, call }) => call_kind(domain, call, words),
     }
 }
 
@@ -73,16 +70,11 @@ pub fn object_line(
     number: u64,
     out: &mut [u8],
     at: usize,
-) -> NewEstate
+) -> ObjectReply
     ensures { ObjectTold t x d f call number store.old store.new out.old at out.new result }
 {
-    let r = object_call(t, x, store, d as u64, f, call);
-    let a = r.answer;
-    let end = put_line(out, at, number, answer_number(a), &[answer_value(a)]);
-    let estate = r.estate;
-    NewEstate {
-        place: r.place,
-        estate,
-        at: end,
-    }
+    let altered = object_call(t, x, store, d as u64, f, call);
+    let answer = answer_number(altered.map(|_| 0));
+    let at = put_line(out, at, number, answer, &[0]);
+    ObjectReply { altered, at }
 }

@@ -2,14 +2,14 @@
 // answered.
 #![tactic(auto)]
 
-use calls::{Access, DomainCall, ObjectCall};
-use state::{Estate, State};
+use calls::{Access, Altered, DomainCall, ObjectCall, Refusal};
+use state::State;
 
 pub mod boots;
 pub mod kinds;
 
-// What a line asks for, by what it may change: nothing, for its answer is known (its number); words; an estate and words; the caller's
-// domain; all.
+// What a line asks for, by what it may change: nothing, for its answer is known (the paper's number, as it is printed); words; an estate and
+// words; the caller's domain; all.
 #[derive(Clone, Copy)]
 pub enum Kind {
     Known(u64),
@@ -19,14 +19,14 @@ pub enum Kind {
     Boot(u64),
 }
 
-// Behind a line: the part of the state that it may have changed, and the end of the text.
+// Behind a call on objects: the estate that it changed, or why it is refused, and the end of the text.
 #[derive(Clone, Copy)]
-pub struct NewEstate {
-    pub place: usize,
-    pub estate: Estate,
+pub struct ObjectReply {
+    pub altered: Result<Altered, Refusal>,
     pub at: usize,
 }
 
+// Behind a boot: the state, and the end of the text.
 #[derive(Clone, Copy)]
 pub struct NewState {
     pub state: State,

@@ -1,5 +1,5 @@
 -- A line answered, of whatever kind: the progress goes on by it.
-use Rattle.std.specs.Prelude.{ℕ, ◌+◌, ◌-◌, ◌≤◌, ◌≡◌, refl, length, take, drop}
+use Rattle.std.specs.Prelude.{ℕ, ◌+◌, ◌-◌, ◌≤◌, ◌≡◌, refl, length, take, drop, Option}
 use Rattle.std.proofs.Common.{ap, sym, ◌∙◌, arith}
 use mathlib.Core.List.{List, [], foldl}
 use Rattle.state.specs.declared.State.{State}
@@ -39,7 +39,7 @@ pub record Stands (a : Progress) (piece : List ℕ) (n size : ℕ) (s : State) (
 
 -- and behind a line that is answered there, of whatever kind
 pub stands_told : {a : Progress} {piece : List ℕ} {n size : ℕ} {s : State} {words : List ℕ} {number : ℕ} {line : List ℕ} {held : ℕ} {out : List ℕ} {at from end : ℕ}
-    {l : Line} {number' : ℕ} {line' : List ℕ} {s' : State} {words' out' : List ℕ} {at' : ℕ} (reading : Line) (plan : List ℕ)
+    {l : Option Line} {number' : ℕ} {line' : List ℕ} {s' : State} {words' out' : List ℕ} {at' : ℕ} (reading : Option Line) (plan : List ℕ)
     → Stands a piece n size s words number line held out at from → end ≡ from + until 10 (drop from piece) → (end ≡ length piece → ⊥)
     → reads reading plan ≡ line_of (foldl held_byte (take held line) (take (end - from) (drop from piece))) → number' ≡ next_number number → length line' ≡ length line
     → reading ≡ l → at + 273 ≤ length out → Told number out at out' at' (world s' words') (reply unchecked (world s words) (reads l plan))
@@ -47,7 +47,7 @@ pub stands_told : {a : Progress} {piece : List ℕ} {n size : ℕ} {s : State} {
     → Stands a piece n size s' words' number' line' 0 out' at' (end + 1)
 stands_told {line = line} {held = held} {out = out} {at = at} {out' = out'} {at' = at'} reading plan v to ne e m k q h t w o =
     record {
-      fed = fed_told unchecked held_byte (take held line) out at out' at' v.fed to ne (ap (λ (z : Line). reads z plan) (sym q) ∙ e) m t h;
+      fed = fed_told unchecked held_byte (take held line) out at out' at' v.fed to ne (ap (λ (z : Option Line). reads z plan) (sym q) ∙ e) m t h;
       few = omega arith;
       hold = k ∙ v.hold;
       buffer = o ∙ v.buffer;

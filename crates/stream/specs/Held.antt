@@ -1,15 +1,19 @@
 -- The program holds the first bytes of a line: enough to tell that it is too long.
-use Rattle.std.specs.Prelude.{ℕ, ◌+◌, ◌<◌, ◌≤◌, ◌≡◌, refl, Bool, ltb, eqb, length, take, set}
-use Rattle.std.proofs.Common.{◌∙◌, sym, arith, add-one, length-append, length-take, take_all, take-suc-set, length-take-le, lt-ltb, le-ltb, ltb-true, ltb-false, eq-eqb, ne_eqb, eqb-true}
+use Rattle.std.specs.Prelude.{ℕ, ◌+◌, ◌-◌, ◌<◌, ◌≤◌, min, ◌≡◌, refl, Bool, ltb, eqb, length, take, set}
+use Rattle.std.proofs.Common.{◌∙◌, sym, arith, add-one, length-append, length-take, take_all, take-suc-set, length-take-le}
+use Rattle.std.proofs.Common.{lt-ltb, le-ltb, ltb-true, ltb-false, eq-eqb, ne_eqb, eqb-true}
 use Rattle.std.proofs.Math.Path.{ap}
 use Rattle.std.proofs.Math.Bool.{true, false, cond}
 use mathlib.Core.List.{List, [], ◌∷◌, ◌++◌, foldl, append_assoc, append-nil}
+use Rattle.std.proofs.Math.Nat.{min_comm}
+use Rattle.std.proofs.Math.Seq.{take-append-add}
 use Rattle.std.proofs.lemmas.List.{take-append-le}
 use Rattle.std.proofs.lemmas.Bool.{eqb-false}
 use Rattle.lines.specs.Grammar.{line_bytes, line_of}
 use Rattle.replies.specs.Reply.{Carrying, reply}
 use Rattle.stream.specs.Run.{Progress, line_done, with_line, on_byte_by, extended, last_line}
 use Rattle.stream.specs.Feed.{held_bytes, held_byte, on_held, cut}
+use Rattle.stream.specs.Room.{take_clip}
 
 -- a line reads as the bytes that are held
 pub cut_reads : (s : List ℕ) → line_of (take held_bytes s) ≡ line_of s
@@ -89,3 +93,17 @@ pub held_full : (line : List ℕ) (n b : ℕ) → n ≤ held_bytes → held_byte
 held_full line n b h g l =
     let w : length (take n line) ≡ n = length-take-le n line (omega arith) in
     rw (w, le-ltb n held_bytes g)
+
+-- and how it takes bytes: as many as it has room for
+pub held_more : (line s : List ℕ) (n k : ℕ) → n ≤ held_bytes → length line ≡ held_bytes → k ≡ min (length s) (held_bytes - n)
+    → take n line ++ take k s ≡ foldl held_byte (take n line) s
+held_more line s n k h l e =
+    let w : length (take n line) ≡ n = length-take-le n line (omega arith) in
+    let a : take held_bytes (take n line) ≡ take n line = take_all held_bytes (take n line) (omega arith) in
+    let m : held_bytes ≡ length (take n line) + (held_bytes - n) = omega arith in
+    let t : take k s ≡ take (held_bytes - n) s = rw (e, min_comm (length s) (held_bytes - n)) (take_clip s (held_bytes - n)) in
+    let f : foldl held_byte (take n line) s ≡ take held_bytes (take n line ++ s) = rw a at (held_fold s (take n line)) in
+    ap (λ (z : List ℕ). take n line ++ z) t
+    ∙ sym (take-append-add (take n line) s (held_bytes - n))
+    ∙ ap (λ (z : ℕ). take z (take n line ++ s)) (sym m)
+    ∙ sym f

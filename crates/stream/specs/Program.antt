@@ -1,5 +1,5 @@
 -- What the program writes, holding the first bytes of a line and leaving out check 3, is what document 01 says.
-use Rattle.std.specs.Prelude.{ℕ, ◌≡◌, refl, Bool, cond, eqb}
+use Rattle.std.specs.Prelude.{ℕ, ◌≡◌, refl, Bool, cond, eqb, Ok, Err}
 use Rattle.std.proofs.Common.{◌∙◌, sym, ap}
 use Rattle.std.proofs.Math.Bool.{true, false}
 use mathlib.Core.List.{List, [], ◌∷◌, ◌++◌, foldl}
@@ -11,8 +11,7 @@ use Rattle.calls.specs.Boot.{boot}
 use Rattle.calls.specs.Laws.Unchecked.{sound_unchecked}
 use Rattle.calls.proofs.Sound.{step_sound}
 use Rattle.calls.specs.Laws.Booted.{boot_sound}
-use Rattle.calls.specs.declared.Answer.{Answer}
-use Rattle.calls.specs.declared.Answer.TheVariants.{Done, Refused}
+use Rattle.calls.specs.Answers.{Answer}
 use Rattle.lines.specs.Grammar.{line_of}
 use Rattle.lines.specs.Reading.{Reading, answered, boot_by, call_by}
 use Rattle.replies.specs.Reply.{called, reply, state_after}
@@ -35,8 +34,8 @@ reply_sound w (answered number) h = h
 reply_sound w (boot_by d plan) h = go (boot w.words d plan).outcome.answer
   where
     go : (a : Answer) → sound (state_after w.state a (boot w.words d plan).outcome.state) ≡ true
-    go (Done v) = boot_sound w.words d plan
-    go (Refused why) = h
+    go (Ok v) = boot_sound w.words d plan
+    go (Err why) = h
 reply_sound w (call_by d c) h = step_sound w d c h
 
 module _ (more : List ℕ → ℕ → List ℕ) where

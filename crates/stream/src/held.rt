@@ -1,5 +1,5 @@
 // The line that is read: its first bytes are held where it lies across pieces.
-ghost use Rattle.std.specs.Prelude.{◌≡◌, ◌≤◌, length, take};
+ghost use Rattle.std.specs.Prelude.{◌≡◌, ◌≤◌, min, length, take};
 ghost use mathlib.Core.List.{foldl};
 ghost use Rattle.lines.specs.Reading.{reads};
 ghost use Rattle.lines.specs.Grammar.{line_of};
@@ -9,40 +9,52 @@ use crate::HELD_BYTES;
 use calls::BOOT_NUMBERS;
 use lines::{Line, read_line};
 
-// One byte more is held, where there is room.
-fn hold_byte(line: &mut [u8], n: usize, b: u8) -> usize
-    requires { (n ≤ held_bytes) × (length line.old ≡ held_bytes) }
-    ensures { (take result line.new ≡ held_byte (take n line.old) b) × (result ≤ held_bytes) }
-{
-    if n < HELD_BYTES {
-        line[n] = b;
-        return n + 1;
-    }
-    n
+// What is held of a line: so many bytes, and at most all.
+#[derive(Clone, Copy)]
+pub struct Held {
+    pub bytes: [u8; HELD_BYTES],
+    pub count: usize,
+    pub ghost whole: { length bytes ≡ held_bytes },
+    pub ghost fits: { count ≤ held_bytes },
 }
 
-// The bytes of s are held behind the n that are.
-pub fn hold(line: &mut [u8], n: usize, s: &[u8]) -> usize
-    requires { (n ≤ held_bytes) × (length line.old ≡ held_bytes) }
-    ensures { (take result line.new ≡ foldl held_byte (take n line.old) s.now) × (result ≤ held_bytes) }
-{
-    let mut m = n;
-    let mut i = 0;
-    while i < s.len() {
-        m = hold_byte(line, m, s[i]);
-        i += 1;
+impl Held {
+    // The first `count` of these bytes, all where there are fewer.
+    pub fn first(bytes: [u8; HELD_BYTES], count: usize) -> Self
+        ensures same { result.bytes ≡ bytes }
+        ensures clipped { result.count ≡ min count held_bytes }
+    {
+        Held {
+            bytes,
+            count: count.min(HELD_BYTES),
+        }
     }
-    m
-}
 
-// The line that ends with these bytes: where nothing is held, it is read where it lies.
-pub fn read_one(line: &mut [u8], held: usize, rest: &[u8], plan: &mut [u64; BOOT_NUMBERS]) -> Line
-    requires { (held ≤ held_bytes) × (length line.old ≡ held_bytes) }
-    ensures { reads result plan.new ≡ line_of (foldl held_byte (take held line.old) rest.now) }
-{
-    if held == 0 {
-        return read_line(rest, plan);
+    // The bytes of s are held behind those that are, as far as there is room.
+    pub fn hold(&mut self, s: &[u8])
+        ensures { take self.new.count self.new.bytes ≡ foldl held_byte (take self.old.count self.old.bytes) s.now }
+    {
+        let n = s.len().min(HELD_BYTES - self.count);
+        let end = self.count + n;
+        self.bytes[self.count..end].copy_from_slice(&s[..n]);
+        self.count = end;
     }
-    let n = hold(line, held, rest);
-    read_line(&line[..n], plan)
+
+    // The line that ends with these bytes, or none where it is not readable. Where nothing is held, it is read where it lies.
+    pub fn read(&mut self, rest: &[u8], plan: &mut [u64; BOOT_NUMBERS]) -> Option<Line>
+        ensures { reads result plan.new ≡ line_of (foldl held_byte (take self.old.count self.old.bytes) rest.now) }
+    {
+        if self.count == 0 {
+            return read_line(rest, plan);
+        }
+        self.hold(rest);
+        read_line(&self.bytes[..self.count], plan)
+    }
+
+    // Holds nothing.
+    pub fn clear(&mut self)
+        ensures { self.new.count ≡ 0 }
+    {
+        self.count = 0;
+    }
 }

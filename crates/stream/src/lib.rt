@@ -1,7 +1,7 @@
 // The call program's work on the pieces of its input.
 #![tactic(auto)]
 
-ghost use Rattle.std.specs.Prelude.{◌≡◌, true, ◌≤◌, min, length, take};
+ghost use Rattle.std.specs.Prelude.{◌≡◌, true, ◌≤◌, length, take};
 ghost use mathlib.Core.List.{foldl};
 ghost use Rattle.calls.specs.Step.{unchecked};
 ghost use Rattle.stream.specs.Run.{next_number, header};
@@ -9,7 +9,7 @@ ghost use Rattle.stream.specs.Feed.{start_feed, progress_of, finished_text, fini
 
 use apply::domain_call;
 use calls::BOOT_NUMBERS;
-use held::{hold, read_one};
+use held::Held;
 use lines::{LINE_BYTES, find};
 use replies::Kind;
 use replies::boots::boot_line;
@@ -30,9 +30,10 @@ pub struct Feed {
     // The number of the line that is read.
     pub number: u64,
     // The first bytes of that line, of which `held` stand.
+    // Two fields and no `Held`: `feed_piece` and `progress_of` take every feed, also one with more held than fits.
     pub line: [u8; HELD_BYTES],
     pub held: usize,
-    // Where the text in the output buffer ends.
+    // Where the text in the output buffer ends: the buffer is lent, so its length stands here.
     pub at: usize,
     // How many bytes of the piece were taken.
     pub taken: usize,
@@ -41,20 +42,14 @@ pub struct Feed {
 fn next_number(n: u64) -> u64
     ensures { result ≡ next_number n }
 {
-    if n < 18446744073709551615 {
-        return n + 1;
-    }
-    n
+    n.saturating_add(1)
 }
 
 // The header line.
 pub fn header() -> [u8; 18]
     ensures { result ≡ header }
 {
-    [
-        b'l', b'i', b'n', b'e', b',', b'a', b'n', b's', b'w', b'e', b'r', b',', b'v', b'a', b'l',
-        b'u', b'e', b'\n',
-    ]
+    *b"line,answer,value\n"
 }
 
 // Where the program stands at first: no objects, line 1.
@@ -85,19 +80,7 @@ pub fn finish(f: Feed, out: &mut [u8]) -> usize
 fn has_room(length: usize, at: usize) -> bool
     ensures { result ≡ room_for length at }
 {
-    if length < 273 {
-        return false;
-    }
-    at <= length - 273
-}
-
-fn at_most(n: usize, most: usize) -> usize
-    ensures { result ≡ min n most }
-{
-    if most < n {
-        return most;
-    }
-    n
+    length >= 273 && at <= length - 273
 }
 
 // The state with these parts.
@@ -121,22 +104,22 @@ pub fn feed_piece(f: Feed, store: &mut [u64], piece: &[u8], out: &mut [u8]) -> F
     let mut domains = s.domains;
     let mut accounts = s.accounts;
     let mut number = f.number;
-    let mut line = f.line;
-    let mut held = at_most(f.held, HELD_BYTES);
-    let mut at = at_most(f.at, out.len());
+    let mut held = Held::first(f.line, f.held);
+    let mut at = f.at.min(out.len());
     let mut from = 0;
     let mut plan = [0; BOOT_NUMBERS];
+    // No `for`: a turn takes a whole line, or what is left of the piece.
     while (from < piece.len()) & has_room(out.len(), at) {
         let end = find(piece, from, 10);
         if end == piece.len() {
-            held = hold(&mut line, held, &piece[from..end]);
+            held.hold(&piece[from..end]);
             from = end;
             continue;
         }
-        let reading = read_one(&mut line, held, &piece[from..end], &mut plan);
+        let reading = held.read(&piece[from..end], &mut plan);
         let n = number;
         number = next_number(n);
-        held = 0;
+        held.clear();
         from = end + 1;
         let kind = kind_of(store.len(), reading);
         match kind {
@@ -152,19 +135,20 @@ pub fn feed_piece(f: Feed, store: &mut [u64], piece: &[u8], out: &mut [u8]) -> F
             Kind::Object(who, c) => {
                 let m = domains[who];
                 let r = object_line(table, accounts, store, who, m.active, c, n, out, at);
-                let k = r.place;
-                let e = r.estate;
-                table.estates[k] = e;
                 at = r.at;
+                if let Ok(new) = r.altered {
+                    table.estates[new.place] = new.estate;
+                }
                 continue;
             }
             Kind::Domain(who, c) => {
-                let m = domains[who];
-                let r = domain_call(table, store, m, c);
-                let e = r.domain;
-                domains[who] = e;
-                let a = r.answer;
-                at = put_answer(out, at, n, a, r.fields);
+                match domain_call(table, store, domains[who], c) {
+                    Ok(new) => {
+                        domains[who] = new.domain;
+                        at = put_answer(out, at, n, Ok(new.value), new.fields);
+                    }
+                    Err(why) => at = put_line(out, at, n, u64::from(why), &[0]),
+                }
                 continue;
             }
             Kind::Boot(who) => {
@@ -182,8 +166,8 @@ pub fn feed_piece(f: Feed, store: &mut [u64], piece: &[u8], out: &mut [u8]) -> F
     Feed {
         state: state_of(table, domains, accounts),
         number,
-        line,
-        held,
+        line: held.bytes,
+        held: held.count,
         at,
         taken: from,
     }

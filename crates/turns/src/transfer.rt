@@ -1,8 +1,8 @@
 // Reading and writing: a call that is interrupted, or would have to wait, is made again.
-ghost use Rattle.std.specs.Prelude.{true, ◌≡◌, length};
+ghost use Rattle.std.specs.Prelude.{◌≡◌, ◌<◌, ◌≤◌, length, IfOk, IfSome, IsOk};
 ghost use Rattle.std.specs.Counts.{IsPrefixLen};
 
-use std::io::{Error, ErrorKind, Read, Stdin, Stdout, Write};
+use std::io::{Error, ErrorKind, Read, Result, Stdin, Stdout, Write};
 use std::thread::yield_now;
 
 // Whether a call that failed so may be made again. Before that, one that would have to wait lets others run.
@@ -15,45 +15,51 @@ fn again(why: &Error) -> bool {
     kind == ErrorKind::Interrupted
 }
 
-// Bytes of standard input, put at the start of `piece`: how many, 0 at its end or where reading fails.
-pub fn read_some(mut input: Stdin, piece: &mut [u8]) -> usize
-    ensures { IsPrefixLen result piece.new }
+// Bytes of standard input, put at the start of `piece`: how many, or `None` at its end or where reading fails.
+pub fn read_some(mut input: Stdin, piece: &mut [u8]) -> Option<usize>
+    ensures fits { IfSome result (λ n. IsPrefixLen n piece.new) }
+    ensures some { IfSome result (λ n. 0 < n) }
 {
-    let mut tries = u64::MAX;
-    while tries > 0 {
+    for _ in 0..u64::MAX {
         match input.read(piece) {
-            Ok(n) => return n,
+            Ok(0) => return None,
+            Ok(n) => return Some(n),
             Err(why) => {
                 if !again(&why) {
-                    return 0;
+                    return None;
                 }
             }
         }
-        tries -= 1;
     }
-    0
+    None
 }
 
-// Writes `text` to standard output, and answers whether all of it was taken: of no bytes it was. Behind a write that fails it makes no other.
-pub fn write_text(mut output: Stdout, text: &[u8]) -> bool
-    ensures { length text.now ≡ 0 → result ≡ true }
+// Writes the first bytes of a text to standard output: how many, at least one.
+fn write_some(mut output: Stdout, text: &[u8]) -> Result<usize>
+    ensures { IfOk result (λ n. (0 < n) × (n ≤ length text.now)) }
 {
-    let mut from = 0;
-    let mut tries = u64::MAX;
-    while from < text.len() {
-        if tries == 0 {
-            return false;
-        }
-        tries -= 1;
-        match output.write(&text[from..]) {
-            Ok(0) => return false,
-            Ok(n) => from += n,
+    for _ in 0..u64::MAX {
+        match output.write(text) {
+            Ok(0) => return Err(Error::from(ErrorKind::WriteZero)),
+            Ok(n) => return Ok(n),
             Err(why) => {
                 if !again(&why) {
-                    return false;
+                    return Err(why);
                 }
             }
         }
     }
-    true
+    Err(Error::from(ErrorKind::TimedOut))
+}
+
+// Writes all of `text` to standard output; where it has no bytes, nothing is left to fail. Behind a write that fails it makes no other.
+pub fn write_text(output: Stdout, text: &[u8]) -> Result<()>
+    ensures { length text.now ≡ 0 → IsOk result }
+{
+    let mut rest = text;
+    while !rest.is_empty() {
+        let n = write_some(output, rest)?;
+        rest = &rest[n..];
+    }
+    Ok(())
 }

@@ -3,4 +3,4 @@ use Rattle.listing.specs.Lines.{listing}
 use Rattle.objects.proofs.end_text.Goals as goal
 
 pub returns : goal.returns
-returns c = (rw c.listing_text.ensures.0 (left_printed listing _ c.end_table.ensures), c.listing_text.ensures.1)
+returns c = rw c.listing_text.ensures (left_printed listing _ c.end_table.ensures)

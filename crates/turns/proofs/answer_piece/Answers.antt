@@ -1,55 +1,35 @@
-use Rattle.std.proofs.Common.{◌≡◌, ◌+◌, ◌-◌, ◌<◌, length, take, drop, refl, sym, ap, ◌∙◌, not, true≢false, take_all, length-take, length-drop, arith}
+use Rattle.std.proofs.Common.{◌≡◌, ◌<◌, ◌-◌, length, take, drop, take_all, length-take, length-drop, refl, sym, ◌∙◌, arith}
+use Rattle.std.proofs.lemmas.Bool.{eqb-false}
 use Rattle.stream.specs.Room.{feed_moves}
-use Rattle.stream.specs.Reached.{piece_leads}
+use Rattle.turns.proofs.Partway.{Partway, partway_on, begun_part}
 use Rattle.turns.proofs.answer_piece.Goals as goal
+use Rattle.turns.proofs.answer_piece.Goals.{After-feed_piece-g}
 
-pub loop-from-init : goal.loop-from-init
-loop-from-init c = (c.requires.1, refl, refl, omega arith, refl)
+further : (c : After-feed_piece-g)
+    → Partway c.args.f c.args.store.now c.args.piece.now (drop c.feed_piece-g.result.taken c.loop-rest.rest.now) c.feed_piece-g.result c.feed_piece-g.new.store
+further c = partway_on c.loop-rest.out c.feed_piece-g.result _ c.feed_piece-g.new.out c.loop-rest.invariant.partway c.feed_piece-g.ensures.out_after
 
-pub slice_bounds-hand_over-end-in-loop-from : goal.slice_bounds-hand_over-end-in-loop-from
-slice_bounds-hand_over-end-in-loop-from c = simp length-take (omega arith)
+pub returns-then-is_err-clause-begun : goal.returns-then-is_err-clause-begun
+returns-then-is_err-clause-begun c = begun_part (further (goal.at.returns-then-is_err-clause-begun c).After-feed_piece-g)
 
-pub returns-then-not-hand_over : goal.returns-then-not-hand_over
-returns-then-not-hand_over c =
-    let l =
-    piece_leads c.args.f c.args.store.now c.args.piece.now c.loop-from.from c.loop-from.g c.loop-from.store c.loop-from.out c.feed_piece-g.result _ _ c.loop-from.invariant.4
-    c.feed_piece-g.ensures.out_after
-    in (
-      record { taken = c.loop-from.from + c.feed_piece-g.result.taken; led = l; all = λ e. absurd (true≢false (sym e)) },
-      λ e. absurd (true≢false (sym (ap not c.if-not-hand_over.true) ∙ ap not (c.hand_over.ensures e))),
-    )
-
-pub overflow_add-from : goal.overflow_add-from
-overflow_add-from c =
-    let few = simp (length-take, length-drop) at c.feed_piece-g.ensures.taken_in_bounds.0 in
-    omega (arith, few)
-
-pub loop-from-smaller : goal.loop-from-smaller
-loop-from-smaller c =
-    let few = simp (length-take, length-drop) at c.feed_piece-g.ensures.taken_in_bounds.0 in
-    let some : 0 < length (take (length c.args.piece.now - c.loop-from.from) (drop c.loop-from.from c.args.piece.now)) =
-    simp (length-take, length-drop) (omega (arith, c.loop-from-test.true))
-    in
+pub loop-rest-smaller : goal.loop-rest-smaller
+loop-rest-smaller c =
+    let r = c.feed_piece-g.result in
+    let rest = c.loop-rest.rest.now in
     let q = c.feed_piece-g.ensures.taken_in_bounds in
-    omega (
-      arith,
-      few,
-      feed_moves _ _ (length c.loop-from.out) c.feed_piece-g.result _ _ refl (omega (arith, c.loop-from.invariant.0)) some c.feed_piece-g.ensures.out_after
-          (omega (arith, c.feed_piece-g.auto.out)) q.2 q.1,
-    )
+    let some : 0 < length rest = omega (arith, eqb-false _ _ (sym c.is_empty.ensures ∙ c.loop-rest-test.true)) in
+    let moves : 0 < r.taken =
+    feed_moves _ rest (length c.loop-rest.out) r _ _ refl (omega (arith, c.loop-rest.invariant.room)) some c.feed_piece-g.ensures.out_after
+    (omega (arith, c.feed_piece-g.auto.out)) q.2 q.1
+    in
+    simp (length-take, length-drop) (omega (arith, moves, some, q.0))
 
-pub loop-from-preserved : goal.loop-from-preserved
-loop-from-preserved c =
-    let few = simp (length-take, length-drop) at c.feed_piece-g.ensures.taken_in_bounds.0 in (
-      omega (arith, c.feed_piece-g.auto.out),
-      omega (arith, c.feed_piece-g.auto.store),
-      omega (arith, c.feed_piece-g.auto.out),
-      omega (arith, few),
-      piece_leads c.args.f c.args.store.now c.args.piece.now c.loop-from.from c.loop-from.g c.loop-from.store c.loop-from.out c.feed_piece-g.result _ _ c.loop-from.invariant.4
-          c.feed_piece-g.ensures.out_after,
-    )
-
-pub returns : goal.returns
-returns c =
-    let all : take c.loop-from.from c.args.piece.now ≡ c.args.piece.now = take_all c.loop-from.from c.args.piece.now (omega arith) in
-    (record { taken = c.loop-from.from; led = c.loop-from.invariant.4; all = λ e. all }, λ e. refl)
+pub loop-rest-preserved : goal.loop-rest-preserved
+loop-rest-preserved c =
+    let n = c.feed_piece-g.result.taken in
+    let rest = c.loop-rest.rest.now in
+    let all : take (length rest - n) (drop n rest) ≡ drop n rest = take_all _ _ (omega (arith, length-drop n rest)) in
+    record {
+      room = omega (arith, c.feed_piece-g.auto.out);
+      partway = rw all (further (goal.at.loop-rest-preserved c).After-feed_piece-g);
+    }

@@ -1,11 +1,12 @@
-use Rattle.std.proofs.Common.{◌≡◌, ◌-◌, ◌≤◌, length, take}
-use Rattle.stream.specs.Feed.{Leads}
+use Rattle.std.proofs.Common.{◌≡◌, length}
+use Rattle.turns.proofs.Partway.{Partway}
 use Rattle.turns.proofs.answer_piece.Given as goal
 
-abbrev pub invariant-loop-from : goal.invariant-loop-from
-invariant-loop-from l =
-    (length l.out ≡ 65536) × (length l.store ≡ length l.initial.store) × (length l.out ≡ length l.initial.out) × (l.from ≤ length l.piece)
-    × Leads l.initial.g l.initial.store (take l.from l.piece) l.g l.store
+abbrev pub invariant-loop-rest : goal.invariant-loop-rest
+invariant-loop-rest l = record {
+  room : length l.out ≡ 65536;
+  partway : Partway l.initial.g l.initial.store l.piece l.rest l.g l.store;
+}
 
-abbrev pub decreases-loop-from : goal.decreases-loop-from
-decreases-loop-from l = length l.piece - l.from
+abbrev pub decreases-loop-rest : goal.decreases-loop-rest
+decreases-loop-rest l = length l.rest

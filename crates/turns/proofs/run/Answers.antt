@@ -1,24 +1,16 @@
-use Rattle.std.proofs.Common.{refl, arith}
-use Rattle.stream.specs.Reached.{reached_none}
+use Rattle.std.proofs.Common.{arith}
+use Rattle.std.proofs.lemmas.Result.{err_from_is_err_and}
 use Rattle.turns.specs.Led.{reached_begun}
 use Rattle.turns.proofs.run.Goals as goal
 
-pub loop-turns-init : goal.loop-turns-init
-loop-turns-init c = (refl, refl, refl, rw c.start-g.ensures (reached_none _))
+pub returns-in_err-f-clause-reached : goal.returns-in_err-f-clause-reached
+returns-in_err-f-clause-reached c =
+    let p = err_from_is_err_and c.from_residual.result c.from_residual.ensures.1 in
+    rw (p.1, p.2) (reached_begun c.loop.invariant.reached c.in_err-f.ensures.begun)
 
-pub returns-then-n-eq0 : goal.returns-then-n-eq0
-returns-then-n-eq0 c = (c.loop-turns.invariant.3, λ e. refl)
-
-pub loop-turns-preserved : goal.loop-turns-preserved
-loop-turns-preserved c = (
-  omega (arith, c.read_some-n.auto.piece, c.loop-turns.invariant.0),
-  omega (arith, c.answer_piece-t.auto.out, c.loop-turns.invariant.1),
-  omega (arith, c.answer_piece-t.auto.store, c.loop-turns.invariant.2),
-  reached_begun c.loop-turns.invariant.3 c.answer_piece-t.ensures.0,
-)
-
-pub returns-else-t : goal.returns-else-t
-returns-else-t c = (reached_begun c.loop-turns.invariant.3 c.answer_piece-t.ensures.0, λ e. c.answer_piece-t.ensures.1 e)
-
-pub returns : goal.returns
-returns c = (c.loop-turns.invariant.3, λ e. refl)
+pub loop-preserved : goal.loop-preserved
+loop-preserved c = record {
+  piece_room = omega (arith, c.read_some.auto.piece);
+  out_room = omega (arith, c.answer_piece.auto.out);
+  reached = reached_begun c.loop.invariant.reached c.in_ok-f.ensures.begun;
+}

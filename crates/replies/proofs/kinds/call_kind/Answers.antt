@@ -1,7 +1,9 @@
+use mathlib.Core.Path.{ap}
+use Rattle.replies.specs.declared.Kind.TheVariants as kind
 use Rattle.replies.proofs.kinds.call_kind.Goals as goal
 
-pub returns-in-Known : goal.returns-in-Known
-returns-in-Known c = rw (← c.caller_of-caller.ensures, c.in-Known.is) c.known_kind.ensures
+pub returns-in-Ok : goal.returns-in-Ok
+returns-in-Ok c = rw (← c.caller_of.ensures, c.in-Ok.is) c.known_kind.ensures
 
-pub returns-in-Refused : goal.returns-in-Refused
-returns-in-Refused c = rw (← c.caller_of-caller.ensures, c.in-Refused.is, c.refusal_number.ensures)
+pub returns-in-Err : goal.returns-in-Err
+returns-in-Err c = rw (← c.caller_of.ensures, c.in-Err.is) (ap kind.Known c.from.ensures)

@@ -1,8 +1,0 @@
-use borrow.Author.Tests.{lt-ltb, le-ltb}
-use Rattle.stream.proofs.next_number.Goals as goal
-
-pub returns-then-n-lt18446744073709551615 : goal.returns-then-n-lt18446744073709551615
-returns-then-n-lt18446744073709551615 c = rw (lt-ltb _ _ c.if-n-lt18446744073709551615.true)
-
-pub returns : goal.returns
-returns c = rw (le-ltb _ _ c.if-n-lt18446744073709551615.false)
