@@ -33,7 +33,7 @@ impl Part for State {
     }
 }
 
-// The state of a slice of its length. Of another slice, the empty state.
+// The state of a slice of its length. Of another slice, the empty state, and no Option: the promise gives a state of every slice.
 pub fn state_of(bytes: &[u8]) -> State
     ensures { result ≡ state_of bytes.now }
 {

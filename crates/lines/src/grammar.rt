@@ -37,7 +37,8 @@ fn register(n: usize, x: &[u64; 8]) -> ObjectCall
     }
 }
 
-// The call of these letters with n arguments, the first eight in x; none where it takes another number of them.
+// The call of these letters with n arguments, the first eight in x; none where it takes another number of them. RG takes more than eight, so
+// the count stands beside them.
 #[tactic(auto, unfolding(crate::specs::Grammar::call_of))]
 pub fn call_of(mnemonic: Mnemonic, n: usize, x: &[u64; 8]) -> Option<Call>
     ensures { (d : ℕ) → asked d result ≡ call_of d mnemonic n x.now }

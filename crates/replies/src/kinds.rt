@@ -43,7 +43,7 @@ pub fn kind_of(words: usize, reading: Option<Line>) -> Kind
     }
 }
 
-// An access, answered at `at`: where the text ends.
+// An access, answered at `at`: where the text ends. Number, buffer and place apart, as `put_line` takes them.
 pub fn access_line(
     t: Table,
     store: &mut [u64],

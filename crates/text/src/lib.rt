@@ -43,7 +43,7 @@ pub fn answer_value(a: Result<u64, Refusal>) -> u64
     a.unwrap_or(0)
 }
 
-// Puts the line of an answer: the fields of a done GT, else the value.
+// Puts the line of an answer: the fields of a done GT, else the value. At every place of a buffer, as `put_line`.
 pub fn put_answer(
     out: &mut [u8],
     at: usize,
