@@ -32,7 +32,11 @@ fn found_by(reference: Reference, name: &str, other: Other, most: usize) -> Diff
     let Err(found) = search(reference, other, plan, &mut |_| {}) else {
         panic!("{name}: not found");
     };
-    let short = shortest(other, found, Duration::from_secs(1)).unwrap();
+    let mut short = shortest(other, found.clone(), Duration::from_secs(1)).unwrap();
+    // On a slow machine a second may be too short for all that were found.
+    if line_count(&short.input) > most {
+        short = shortest(other, found, Duration::from_secs(30)).unwrap();
+    }
     let lines = line_count(&short.input);
     println!("{name}: {lines} lines\n{}", report(&short));
     assert!(
