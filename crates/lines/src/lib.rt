@@ -1,11 +1,11 @@
 // Reading a line of the call program.
 #![tactic(auto)]
 
-ghost use Rattle.std.specs.Prelude.{Some};
+ghost use Rattle.std.specs.Prelude.{Some, length};
 ghost use Rattle.lines.specs.declared.Named.TheVariants.{Boot, Call as Named-as-Call};
 ghost use Rattle.lines.specs.Arguments.{numbers_of};
 ghost use Rattle.lines.specs.Cut.{behind};
-ghost use Rattle.lines.specs.Gathering.{Gathered};
+ghost use Rattle.lines.specs.Gathering.{Gathered, held_by};
 ghost use Rattle.lines.specs.Reading.{ReadAs, Whatever};
 ghost use Rattle.lines.specs.Grammar.{with_arguments, line_of};
 
@@ -56,15 +56,19 @@ pub enum Line {
 }
 
 // The numbers in the text behind the call letters: nothing, or a comma and a number for each. How many there are; the first are put into
-// an array, as far as it has room. A field is taken by let-else, as document 01 asks, which is also 3 instructions a line less than `?`.
-fn read_numbers(t: &[u8], into: &mut [u64]) -> Option<usize>
-    ensures { Gathered (numbers_of (behind t.now)) result into.old into.new }
+// an array, as far as it has room. Where it is to hold all, none as soon as there is one too many: such a line is not read to its end. A field
+// is taken by let-else, as document 01 asks, which is also 3 instructions a line less than `?`.
+fn read_numbers(t: &[u8], all: bool, into: &mut [u64]) -> Option<usize>
+    ensures { Gathered (held_by all (length into.old) (numbers_of (behind t.now))) result into.old into.new }
 {
     if t.is_empty() {
         return Some(0);
     }
     let mut n = 0;
     for field in t[1..].split(|b| *b == b',') {
+        if all & (n == into.len()) {
+            return None;
+        }
         let Some(v) = number(field) else {
             return None;
         };
@@ -81,7 +85,7 @@ fn read_call(domain: u64, mnemonic: Mnemonic, t: &[u8]) -> Option<Line>
     ensures { Whatever result (with_arguments domain (Some (Named-as-Call mnemonic)) (numbers_of (behind t.now))) }
 {
     let mut arguments = [0; 8];
-    let count = read_numbers(t, &mut arguments)?;
+    let count = read_numbers(t, false, &mut arguments)?;
     let call = call_of(mnemonic, count, &arguments)?;
     Some(Line::Call { domain, call })
 }
@@ -91,7 +95,7 @@ fn read_boot(domain: u64, t: &[u8], plan: &mut [u64; BOOT_NUMBERS]) -> Option<Li
     ensures { ReadAs result plan.old plan.new (with_arguments domain (Some Boot) (numbers_of (behind t.now))) }
 {
     let mut numbers = [0; BOOT_NUMBERS];
-    let count = read_numbers(t, &mut numbers)?;
+    let count = read_numbers(t, true, &mut numbers)?;
     if count != BOOT_NUMBERS {
         return None;
     }
