@@ -93,10 +93,11 @@ fn carried_out(s: State, store: &mut [u64], d: usize, call: Call) -> Outcome
     let x = s.accounts;
     let m = s.domains[d];
     let f = m.active;
+    // Each arm returns: the value of a `match`, a whole state, is made of zeros first and copied then.
     match call {
-        Call::OnStore(c) => answered(s, access(t, store, f, c)),
-        Call::OnObject(c) => put_estate(s, object_call(t, x, store, d as u64, f, c)),
-        Call::OnDomain(c) => put_domain(s, d, domain_call(t, store, m, c)),
+        Call::OnStore(c) => return answered(s, access(t, store, f, c)),
+        Call::OnObject(c) => return put_estate(s, object_call(t, x, store, d as u64, f, c)),
+        Call::OnDomain(c) => return put_domain(s, d, domain_call(t, store, m, c)),
     }
 }
 
@@ -105,8 +106,8 @@ pub fn unchecked(s: State, store: &mut [u64], d: u64, call: Call) -> Outcome
     ensures { result_of result store.new ≡ unchecked (world s store.old) d call }
 {
     match caller_of(store.len(), d) {
-        Ok(k) => carried_out(s, store, k, call),
-        Err(why) => answered(s, Err(why)),
+        Ok(k) => return carried_out(s, store, k, call),
+        Err(why) => return answered(s, Err(why)),
     }
 }
 

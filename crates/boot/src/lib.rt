@@ -112,8 +112,9 @@ fn booted(store: &mut [u64], plan: [u64; BOOT_NUMBERS]) -> Outcome
 pub fn boot(store: &mut [u64], d: u64, plan: [u64; BOOT_NUMBERS]) -> Outcome
     ensures { result_of result store.new ≡ boot store.old d plan }
 {
+    // Each arm returns: the value of a `match`, a whole state, is made of zeros first and copied then.
     match caller_of(store.len(), d) {
-        Ok(_) => booted(store, plan),
-        Err(why) => answered(empty_state(), Err(why)),
+        Ok(_) => return booted(store, plan),
+        Err(why) => return answered(empty_state(), Err(why)),
     }
 }

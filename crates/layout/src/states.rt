@@ -37,10 +37,11 @@ impl Part for State {
 pub fn state_of(bytes: &[u8]) -> State
     ensures { result ≡ state_of bytes.now }
 {
-    let mut s = empty_state();
-    if bytes.len() == STATE {
-        s.load(bytes, 0);
+    if bytes.len() != STATE {
+        return empty_state();
     }
+    let mut s = empty_state();
+    s.load(bytes, 0);
     s
 }
 

@@ -24,9 +24,9 @@ pub fn boot_line(
 {
     let o = boot(store, d, plan);
     let at = put_answer(out, at, number, o.answer, o.fields);
-    let state = match o.answer {
-        Ok(_) => o.state,
-        Err(_) => s,
-    };
-    NewState { state, at }
+    // Each arm returns, as in `boot`: the value of a `match` would be copied.
+    match o.answer {
+        Ok(_) => return NewState { state: o.state, at },
+        Err(_) => return NewState { state: s, at },
+    }
 }
