@@ -1,5 +1,5 @@
 -- std's decimal is this crate's.
-use Rattle.std.specs.Prelude.{Bool, true, false, ℕ, zero, suc, ◌+◌, ◌-◌, ◌/◌, ◌%◌, ◌^◌, ◌<◌, ◌≤◌, ◌≡◌, refl, cond, List, [], ◌∷◌, ◌++◌, ltb, length, take, drop}
+use Rattle.std.specs.Prelude.{Bool, true, false, ℕ, zero, suc, ◌+◌, ◌/◌, ◌%◌, ◌^◌, ◌<◌, ◌≤◌, ◌≡◌, refl, cond, List, [], ◌∷◌, ◌++◌, ltb, length, take, drop}
 use Rattle.std.specs.Fmt as fmt
 use Rattle.std.proofs.Common.{◌∙◌, sym, arith, lt-ltb, ltb-true, ltb-false, take-append-drop}
 use Rattle.std.proofs.Math.Nat.{pow-succ'}

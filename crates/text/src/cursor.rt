@@ -1,11 +1,9 @@
 // A place in a buffer, where text is put.
 ghost use Rattle.std.specs.Prelude.{◌≡◌, [], ◌∷◌, ◌+◌, ◌*◌, ◌<◌, ◌≤◌, length};
-ghost use Rattle.text.specs.Decimal.{decimal, Places};
+ghost use Rattle.text.specs.Decimal.{decimal, last_digits, Places};
 ghost use Rattle.text.specs.Puts.{Put};
 ghost use Rattle.text.specs.Grown.{Grown};
 ghost use Rattle.text.specs.Answer.{fields_text, answer_line};
-
-use itoa::write_digits;
 
 // Text goes into `out` from `at` on. The methods are inlined, so that a cursor stays in registers: without it a line costs a twentieth more.
 #[derive(Drop)]
@@ -30,8 +28,12 @@ impl<'a> Cursor<'a> {
         requires { self.old.at + 20 ≤ length self.old.out.now }
         ensures { Grown self.old (decimal n) self.new × (self.new.at ≤ self.old.at + 20) }
     {
-        self.at += places(n);
-        write_digits(n, self.out, self.at);
+        if n < 10 {
+            self.put_byte(b'0' + n as u8);
+            return;
+        }
+        let k = places(n);
+        self.at = put_digits(self.out, self.at, n, k);
     }
 
     // A comma and a number.
@@ -71,4 +73,24 @@ fn places(n: u64) -> usize
         power *= 10;
     }
     if n < power { 19 } else { 20 }
+}
+
+// The last k digits of n, put from the last ones backwards, two a turn. By hand: the kit's `itoa` would be one more library to trust.
+fn put_digits(out: &mut [u8], at: usize, n: u64, k: usize) -> usize
+    requires { at + k ≤ length out.old }
+    ensures { Put out.old at (last_digits k n) out.new result × (result ≡ at + k) }
+{
+    let mut rest = n;
+    let mut i = k;
+    while 2 <= i {
+        let two = (rest % 100) as u8;
+        rest /= 100;
+        i -= 2;
+        out[at + i + 1] = b'0' + two % 10;
+        out[at + i] = b'0' + two / 10;
+    }
+    if i == 1 {
+        out[at] = b'0' + (rest % 10) as u8;
+    }
+    at + k
 }
