@@ -1,11 +1,9 @@
 -- The numbers of a line, put one after another into an array, as far as it has room.
-use Rattle.std.specs.Prelude.{ℕ, zero, suc, ◌+◌, ◌-◌, ◌<◌, ◌≤◌, ◌≡◌, refl, Bool, true, false, cond, ◌&&◌, eqb, leb, Option as Maybe, Some, None}
+use Rattle.std.specs.Prelude.{ℕ, zero, suc, ◌+◌, ◌-◌, ◌<◌, ◌≤◌, ◌≡◌, refl, Bool, true, false, cond, eqb, Option as Maybe, Some, None}
 use Rattle.std.specs.Prelude.{List, [], ◌∷◌, ◌++◌, length, take, drop, get_or, set, replicate}
 use Rattle.std.specs.Iterator.{AlwaysYields}
 use Rattle.std.specs.List.{slice_split, onto_first}
-use Rattle.std.proofs.Common.{◌∙◌, sym, ap, arith, eqb-true, le-leb, length-append, length-take, append-nil, Bor}
-use borrow.Author.Tests.{eq-eqb}
-use Rattle.std.proofs.lemmas.Bool.{lt-leb}
+use Rattle.std.proofs.Common.{◌∙◌, sym, ap, arith, eqb-true, length-append, length-take, append-nil, Bor}
 use Rattle.std.proofs.lemmas.Iterator.{YieldsList}
 use Rattle.std.proofs.lemmas.List.Splits.{length-slice_split}
 use Rattle.std.proofs.lemmas.List.Sums.{count_by-le-length}
@@ -15,10 +13,10 @@ use Rattle.calls.specs.Boot.{boot_numbers}
 use Rattle.lines.specs.declared.Named.TheVariants as named
 use Rattle.lines.specs.declared.Mnemonic.{Mnemonic}
 use Rattle.lines.specs.declared.Mnemonic.TheVariants.{Rd, Wr, Ex, Lk, Cr, Dl, Ap, Dp, Rg, In, Rm, Gt, Lo, Ca, Rt}
-use Rattle.lines.specs.Number.{Field, Empty, Number, Bad, field_of}
+use Rattle.lines.specs.Number.{Number, field_of}
 use Rattle.lines.specs.Split.{split, field_ends, onto}
 use Rattle.lines.specs.Cut.{behind}
-use Rattle.lines.specs.Arguments.{in_front, numbers_of}
+use Rattle.lines.specs.Arguments.{numbers_of}
 use Rattle.lines.specs.Letters.{Letters}
 use Rattle.lines.specs.Reading.{unreadable, boot_by}
 use Rattle.lines.specs.Grammar.{call_of, with_arguments}
@@ -96,50 +94,11 @@ abbrev pub Gathered : Option (List ℕ) → Maybe ℕ → List ℕ → List ℕ 
 Gathered none r before values = r ≡ None
 Gathered (some vs) r before values = (r ≡ Some (length vs)) × (values ≡ put before vs)
 
--- the numbers of a line, where an array of this many places that is to hold all of them does
-abbrev pub held_by : Bool → ℕ → Option (List ℕ) → Option (List ℕ)
-held_by true n (some vs) = cond (leb (length vs) n) (some vs) none
-held_by true n none = none
-held_by false n o = o
-
 -- a text of nothing has no field
 pub nothing_gathered : (t before : List ℕ) → length t < 1 → Gathered (numbers_of (behind t)) (Some 0) before before
 unfolding numbers_of
 nothing_gathered [] before h = (refl, put_none before)
 nothing_gathered (b ∷ t) before h = absurd (omega arith)
-
--- a number more where there is room for no more, and where there is
-pub no_room : (all : Bool) (n m : ℕ) → (all && eqb n m) ≡ true → (all ≡ true) × (n ≡ m)
-no_room true n m h = (refl, eqb-true n m h)
-no_room false n m h = cc
-
-pub still_room : (all : Bool) (n m : ℕ) → (all && eqb n m) ≡ false → n ≤ m → all ≡ true → n + 1 ≤ m
-still_room false n m h l e = cc
-still_room true n m h l e = let ne : n ≡ m → ⊥ = λ q. (let w = eq-eqb n m q in cc) in omega (arith, ne)
-
--- what is handed back of as many as there is room for
-pub held_gathered : (all : Bool) (n : ℕ) (o : Option (List ℕ)) (k : ℕ) (before values : List ℕ) → Gathered o (Some k) before values
-    → (all ≡ true → k ≤ n) → Gathered (held_by all n o) (Some k) before values
-held_gathered false n o k before values g h = g
-held_gathered true n none k before values g h = g
-held_gathered true n (some vs) k before values g h =
-    let e : k ≡ length vs = cc in
-    let l : length vs ≤ n = omega (arith, h refl) in
-    rw (le-leb (length vs) n l) g
-
-pub held_none : (all : Bool) (n : ℕ) (o : Option (List ℕ)) (before values : List ℕ) → Gathered o None before values → Gathered (held_by all n o) None before values
-held_none false n o before values g = g
-held_none true n none before values g = g
-held_none true n (some vs) before values g = cc
-
--- one number more than there is room for
-over_room : (ns : List ℕ) (f : Field) (o : Option (List ℕ)) (before values : List ℕ) → length ns ≡ length before
-    → Gathered (held_by true (length before) (joined ns (in_front f o))) None before values
-over_room ns Empty o before values h = refl
-over_room ns Bad o before values h = refl
-over_room ns (Number v) none before values h = refl
-over_room ns (Number v) (some ws) before values h =
-    rw (lt-leb (length (ns ++ (v ∷ ws))) (length before) (omega (arith, h, length-append ns (v ∷ ws)))) refl
 
 module _ {S : Type 0} {steps : S → Maybe (Bor (List ℕ)) → S → Type 0} {t before : List ℕ} {s : S} where
   pub gathering_none : 1 ≤ length t → YieldsList steps (λ f. f.now) s (slice_split (λ b. eqb b 44) (take (length t - 1) (drop 1 t)))
@@ -178,15 +137,6 @@ module _ {S : Type 0} {steps : S → Maybe (Bor (List ℕ)) → S → Type 0} {t
           go (f ∷ left) y h =
               let w : field_of f ≡ field_of x.now = ap field_of (sym (y.1 x u e).0) in
               rw (h, w, joined_bad k.numbers (field_of x.now) (numbers_of left) b) refl
-
-      pub gathering_over : n ≡ length before → Gathered (held_by true (length before) (numbers_of (behind t))) None before values
-      unfolding numbers_of
-      gathering_over h = go k.left k.fields.runs k.rest
-        where
-          go : (left : List (List ℕ)) → AlwaysYields steps (λ f. f.now) s left → numbers_of (behind t) ≡ joined k.numbers (numbers_of left)
-              → Gathered (held_by true (length before) (numbers_of (behind t))) None before values
-          go [] y w = absurd (y x u e)
-          go (f ∷ left) y w = rw w (over_room k.numbers (field_of f) (numbers_of left) before values (sym k.count ∙ h))
 
       pub gathering_more : n < length t
       gathering_more = go k.left k.fields.runs k.few
@@ -237,17 +187,6 @@ boot_gathered d n (some vs) before values g h =
     by_count : (t : Bool) → eqb (length vs) boot_numbers ≡ t → cond t (boot_by d (put before vs)) unreadable ≡ cond t (boot_by d vs) unreadable
     by_count true q = let e = eqb-true (length vs) boot_numbers q in rw (put_all before vs (omega arith))
     by_count false q = refl
-
--- a boot by the numbers that there is room for, which are all of its own
-pub boot_held : (d n : ℕ) (o : Option (List ℕ)) (before values : List ℕ) → Gathered (held_by true (length before) o) (Some n) before values
-    → length before ≡ boot_numbers → cond (eqb n boot_numbers) (boot_by d values) unreadable ≡ with_arguments d (Some named.Boot) o
-boot_held d n none before values g h = cc
-boot_held d n (some vs) before values g h = go (leb (length vs) (length before)) refl g
-  where
-    go : (t : Bool) → leb (length vs) (length before) ≡ t → Gathered (cond t (some vs) none) (Some n) before values
-        → cond (eqb n boot_numbers) (boot_by d values) unreadable ≡ with_arguments d (Some named.Boot) (some vs)
-    go true q g = boot_gathered d n (some vs) before values g h
-    go false q g = cc
 
 -- the arguments of a call, by those that it reads
 call_same : (d n : ℕ) (m : Mnemonic) (x vs : List ℕ) → ((k : ℕ) → k < 8 → get_or x k 0 ≡ get_or vs k 0) → call_of d m n x ≡ call_of d m n vs

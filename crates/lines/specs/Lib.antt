@@ -10,6 +10,7 @@ pub mod Until
 pub mod Cut
 pub mod Taking
 pub mod Gathering
+pub mod Room
 pub mod Commas
 pub mod Joined
 pub mod Examples

@@ -5,7 +5,8 @@ ghost use Rattle.std.specs.Prelude.{Some, length};
 ghost use Rattle.lines.specs.declared.Named.TheVariants.{Boot, Call as Named-as-Call};
 ghost use Rattle.lines.specs.Arguments.{numbers_of};
 ghost use Rattle.lines.specs.Cut.{behind};
-ghost use Rattle.lines.specs.Gathering.{Gathered, held_by};
+ghost use Rattle.lines.specs.Gathering.{Gathered};
+ghost use Rattle.lines.specs.Room.{held_by};
 ghost use Rattle.lines.specs.Reading.{ReadAs, Whatever};
 ghost use Rattle.lines.specs.Grammar.{with_arguments, line_of};
 

@@ -4,7 +4,7 @@ use Rattle.calls.specs.Boot.{boot_numbers}
 use Rattle.lines.specs.Arguments.{numbers_of}
 use Rattle.lines.specs.Cut.{behind}
 use Rattle.lines.specs.Reading.{plan_filled}
-use Rattle.lines.specs.Gathering.{boot_held}
+use Rattle.lines.specs.Room.{boot_held}
 use Rattle.lines.proofs.read_boot.Goals as goal
 
 pub returns : goal.returns

@@ -1,7 +1,8 @@
 use Rattle.std.proofs.Common.{◌≡◌, ◌+◌, ◌≤◌, true, arith, eqb, length, ◌∙◌, rules, tests}
 use Rattle.std.proofs.lemmas.Iterator.Consumers.{YieldsList-at}
 use Rattle.std.proofs.lemmas.Iterator.Splits.{YieldsList-from_slice_split}
-use Rattle.lines.specs.Gathering.{no_room, still_room, nothing_gathered, held_gathered, held_none, gathering_none, gathering_all, gathering_bad, gathering_over, gathering_more, gathering_next}
+use Rattle.lines.specs.Gathering.{nothing_gathered, gathering_none, gathering_all, gathering_bad, gathering_more, gathering_next}
+use Rattle.lines.specs.Room.{no_room, still_room, held_gathered, held_none, gathering_over}
 use Rattle.lines.proofs.Told.{no_number}
 use Rattle.lines.proofs.read_numbers.Goals as goal
 use Rattle.lines.proofs.read_numbers.Goals.{then-n-into, else-n-into}

@@ -27,7 +27,7 @@ answered f by (Ok new) (Ok v) h = ap Ok (by new v h)
 answered f by (Ok new) (Err e) h = absurd h
 answered f by (Err why) a h = h
 
--- zero for an estate is the answer, and the estate itself the result as it was
+-- zero for an estate is the answer, and the estate itself the result as it was (by this the edit estate-not-stored is fitted)
 zeros : (r : Result Altered Refusal) → mapped (λ new. 0) r ≡ object_answer r
 zeros (Ok new) = refl
 zeros (Err why) = refl
